@@ -1,0 +1,5 @@
+pub mod Bytes
+pub mod ByTurns
+pub mod Checks
+pub mod Refusals
+pub mod Sides

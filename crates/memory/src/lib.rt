@@ -1,0 +1,17 @@
+// Memories: a list of doublewords behind one trait, and three ends of it.
+mod beyond;
+mod blocks;
+mod interleaved;
+mod words;
+
+pub use beyond::Beyond;
+pub use beyond::BeyondDisplay;
+pub use beyond::Memory;
+pub use blocks::Blocks;
+pub use blocks::BlocksMemory;
+pub use blocks::Damage;
+pub use blocks::DamageDisplay;
+pub use interleaved::Interleaved;
+pub use interleaved::InterleavedMemory;
+pub use words::Words;
+pub use words::WordsMemory;
