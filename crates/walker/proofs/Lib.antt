@@ -1,0 +1,5 @@
+pub mod Entries
+pub mod Locality
+pub mod Pages
+pub mod Serving
+pub mod Steps
