@@ -3,6 +3,7 @@ ghost use mathlib.Core.List.{List};
 ghost use mathlib.Core.Path.{_≡_};
 ghost use Prim.Native.Nat.{ℕ};
 ghost use Rattle.memory.specs.Cells.{sizeOf, readOf, writeOf, after};
+use std::error::Error;
 use std::fmt;
 
 /// The refusal of a read or a write past the end, with the place that was asked for.
@@ -26,6 +27,8 @@ pub impl fmt::Display for Beyond as BeyondDisplay {
         write!(f, "1: doubleword {place} is beyond the memory")
     }
 }
+
+pub impl Error for Beyond as BeyondError {}
 
 /// A memory means a list of doublewords, `cells`.
 pub trait Memory {

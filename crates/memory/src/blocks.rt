@@ -9,6 +9,7 @@ ghost use Rattle.memory.specs.Cells.{writeOf, after};
 ghost use Rattle.memory.specs.Block.{wordAt, bytesOf, put, checkOf, located, cellsOf, blocksIn, written, lookOver, damageNumber, stored, sound};
 use crate::Beyond;
 use crate::Memory;
+use std::error::Error;
 use std::fmt;
 
 /// Bytes of a block.
@@ -47,6 +48,8 @@ pub impl fmt::Display for Damage as DamageDisplay {
         }
     }
 }
+
+pub impl Error for Damage as DamageError {}
 
 /// Doubleword `n` as its block and its place in that block.
 fn locate(n: u64) -> (u64, u64)

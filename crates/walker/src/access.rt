@@ -2,6 +2,7 @@
 ghost use mathlib.Core.Path.{_≡_};
 ghost use Rattle.walker.specs.Rules.{permits, marked, pageFault, accessFault};
 use crate::Flags;
+use std::fmt;
 
 /// What an access does.
 #[derive(Clone, Copy, PartialEq, Eq, Debug)]
@@ -26,6 +27,25 @@ pub struct Access {
     pub mode: Mode,
     pub sum: bool,
     pub mxr: bool,
+}
+
+pub impl fmt::Display for Kind as KindDisplay {
+    fn fmt<W: fmt::Write>(&self, f: &mut fmt::Formatter<W>) -> fmt::Result {
+        f.write_str(match *self {
+            Kind::Fetch => "fetch",
+            Kind::Load => "load",
+            Kind::Store => "store",
+        })
+    }
+}
+
+pub impl fmt::Display for Mode as ModeDisplay {
+    fn fmt<W: fmt::Write>(&self, f: &mut fmt::Formatter<W>) -> fmt::Result {
+        f.write_str(match *self {
+            Mode::User => "user",
+            Mode::Supervisor => "supervisor",
+        })
+    }
 }
 
 impl Kind {

@@ -1,5 +1,6 @@
 // A table entry as a record of its fields, each within its width.
 ghost use Prim.Native.Nat.{_<_, _^_};
+use std::error::Error;
 use std::fmt;
 
 /// The eight flag bits of an entry, from bit 0 up: valid, readable, writable, executable, user, global, accessed, dirty.
@@ -43,3 +44,5 @@ pub impl fmt::Display for TooWide as TooWideDisplay {
         f.write_str("6: a field is too wide")
     }
 }
+
+pub impl Error for TooWide as TooWideError {}

@@ -13,6 +13,7 @@ use memory::Beyond;
 use memory::BeyondDebug;
 use memory::BeyondDisplay;
 use memory::BeyondPartialEq;
+use std::error::Error;
 use std::fmt;
 
 /// What stopped a walk at an entry, in the order in which a walk looks.
@@ -169,3 +170,5 @@ pub impl fmt::Display for WalkFault as WalkFaultDisplay {
         }
     }
 }
+
+pub impl Error for WalkFault as WalkFaultError {}
