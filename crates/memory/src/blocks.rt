@@ -3,7 +3,7 @@ ghost use mathlib.Core.Bool.{true};
 ghost use mathlib.Core.Path.{_≡_};
 ghost use Prim.Native.Nat.{ℕ, _+_, _*_, _/_, _%_, _<_, _≤_};
 ghost use lib.ListN.{length, drop};
-ghost use denote.Ref.{now};
+ghost use denote.Ref.{name, now};
 ghost use Rattle.std.specs.declared.result.Result.the-variants.{Ok};
 ghost use Rattle.memory.specs.Cells.{writeOf, after};
 ghost use Rattle.memory.specs.Block.{wordAt, bytesOf, put, checkOf, located, cellsOf, blocksIn, written, lookOver, damageNumber, stored, sound};
@@ -135,7 +135,8 @@ pub struct Blocks<'a> {
 
 impl<'a> Blocks<'a> {
     pub fn new(bytes: &'a mut [u8]) -> Blocks<'a>
-        ensures { λ r. ⌜ now (r .bytes) ≡ now (bytes .entry) ⌝ }
+        ensures bytes { λ r. ⌜ now (r .bytes) ≡ now (bytes .entry) ⌝ }
+        ensures lender { λ r. ⌜ name (r .bytes) ≡ name (bytes .entry) ⌝ }
     {
         Blocks { bytes }
     }
@@ -169,6 +170,7 @@ pub impl<'a> Memory for Blocks<'a> as BlocksMemory {
         ensures bytes { λ _. ⌜ now (now (self .exit) .bytes) ≡ written (now (now (self .entry) .bytes)) n value ⌝ }
         ensures tail { λ _. ⌜ drop (512 * blocksIn (now (now (self .entry) .bytes))) (now (now (self .exit) .bytes)) ≡ drop (512 * blocksIn (now (now (self .entry) .bytes))) (now (now (self .entry) .bytes)) ⌝ }
         ensures clean { λ _. ⌜ (lookOver (now (now (self .entry) .bytes)) ≡ Ok tt → lookOver (now (now (self .exit) .bytes)) ≡ Ok tt) ⌝ }
+        ensures lender { λ _. ⌜ name (now (self .exit) .bytes) ≡ name (now (self .entry) .bytes) ⌝ }
     {
         if n >= self.size() {
             return Err(Beyond { place: n });

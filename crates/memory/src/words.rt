@@ -1,5 +1,6 @@
 // A memory over doublewords that the caller lends.
-ghost use denote.Ref.{now};
+ghost use denote.Ref.{name, now};
+ghost use Rattle.memory.specs.Cells.{writeOf, after};
 ghost use mathlib.Core.Path.{_≡_};
 use crate::Beyond;
 use crate::Memory;
@@ -11,7 +12,8 @@ pub struct Words<'a> {
 
 impl<'a> Words<'a> {
     pub fn new(words: &'a mut [u64]) -> Words<'a>
-        ensures { λ r. ⌜ now (r .words) ≡ now (words .entry) ⌝ }
+        ensures list { λ r. ⌜ now (r .words) ≡ now (words .entry) ⌝ }
+        ensures lender { λ r. ⌜ name (r .words) ≡ name (words .entry) ⌝ }
     {
         Words { words }
     }
@@ -31,7 +33,11 @@ pub impl<'a> Memory for Words<'a> as WordsMemory {
         Ok(self.words[n as usize])
     }
 
-    fn write(&mut self, n: u64, value: u64) -> Result<(), Beyond> {
+    fn write(&mut self, n: u64, value: u64) -> Result<(), Beyond>
+        ensures answer { λ r. ⌜ r ≡ writeOf (now (now (self .entry) .words)) n ⌝ }
+        ensures list { λ _. ⌜ now (now (self .exit) .words) ≡ after (now (now (self .entry) .words)) n value ⌝ }
+        ensures lender { λ _. ⌜ name (now (self .exit) .words) ≡ name (now (self .entry) .words) ⌝ }
+    {
         if n >= self.words.len() as u64 {
             return Err(Beyond { place: n });
         }

@@ -16,5 +16,5 @@ settled =
       misaligned = refl;
       misaligned-is = refl;
       check-0 = refl;
-      check-1 = refl
+      check-1 = refl;
     }

@@ -4,5 +4,4 @@ ghost use Rattle.settled.specs.Settled.{Settled};
 /// Computed once, of the definitions that the contracts use.
 pub fn settled_values()
     ensures { λ _. ⌜ Settled ⌝ }
-{
-}
+{}

@@ -1,6 +1,7 @@
 // Two panels' page tables in one interleaved memory: what each access of a list walks to, and a damaged block.
 mod panel;
 
+use memory::BeyondError;
 use memory::Blocks;
 use memory::BlocksMemory;
 use memory::DamageDisplay;
@@ -21,7 +22,6 @@ use walker::ModeDisplay;
 use walker::WalkFault;
 use walker::WalkFaultDisplay;
 use walker::walk;
-use memory::BeyondError;
 
 /// Blocks of the first side: enough for 4,096 doublewords.
 const BLOCKS: usize = 66;
@@ -29,25 +29,51 @@ const BLOCKS: usize = 66;
 const WORDS: usize = 4096;
 
 const KINDS: [Kind; 3] = [Kind::Fetch, Kind::Load, Kind::Store];
+
 const MODES: [Mode; 2] = [Mode::User, Mode::Supervisor];
 
 /// A terrain strip, code, the supervisor's own page, a page not yet marked, a superpage, nothing, not canonical.
-const ADDRESSES: [u64; 7] = [0x1008, 0x2000, 0x3ff8, 0x4000, 0x20_0000, 0x5000, 0x40_0000_0000];
+const ADDRESSES: [u64; 7] = [
+    0x1008,
+    0x2000,
+    0x3ff8,
+    0x4000,
+    0x20_0000,
+    0x5000,
+    0x40_0000_0000,
+];
 
 /// Prints what one access walks to.
-fn show<M: Memory>(rt: &LibcRuntime, memory: &M, panel: &Panel, access: &Access) -> Result<(), AnyError> {
+fn show<M: Memory>(
+    rt: &LibcRuntime,
+    memory: &M,
+    panel: &Panel,
+    access: &Access,
+) -> Result<(), AnyError> {
     let name = panel.name;
-    let Access { address, kind, mode, sum: _, mxr: _ } = *access;
+    let Access {
+        address,
+        kind,
+        mode,
+        sum: _,
+        mxr: _,
+    } = *access;
     match walk(memory, panel.root, access) {
         Ok(t) => {
             let frame = t.frame;
             let level = t.level;
             let leaf = t.leaf.pack();
-            println!(rt, "{name}: {mode} {kind} {address:#x}: frame {frame}, level {level}, leaf {leaf:#x}")?;
+            println!(
+                rt,
+                "{name}: {mode} {kind} {address:#x}: frame {frame}, level {level}, leaf {leaf:#x}"
+            )?;
         }
         Err(fault) => {
             let code = fault.report().code.unwrap_or(0);
-            println!(rt, "{name}: {mode} {kind} {address:#x}: fault {fault}, code {code}")?;
+            println!(
+                rt,
+                "{name}: {mode} {kind} {address:#x}: fault {fault}, code {code}"
+            )?;
         }
     }
     Ok(())
@@ -58,7 +84,18 @@ fn show_all<M: Memory>(rt: &LibcRuntime, memory: &M, panel: &Panel) -> Result<()
     for address in ADDRESSES {
         for mode in MODES {
             for kind in KINDS {
-                show(rt, memory, panel, &Access { address, kind, mode, sum: false, mxr: false })?;
+                show(
+                    rt,
+                    memory,
+                    panel,
+                    &Access {
+                        address,
+                        kind,
+                        mode,
+                        sum: false,
+                        mxr: false,
+                    },
+                )?;
             }
         }
     }
@@ -86,8 +123,18 @@ fn show_panels(rt: &LibcRuntime, bytes: &mut [u8], words: &mut [u64]) -> Result<
     let mut blocks = Blocks::new(bytes);
     seal(&mut blocks)?;
     let mut memory = Interleaved::new(blocks, Words::new(words));
-    let near = Panel { name: Name::Near, root: 1, middle: 2, lowest: 3 };
-    let far = Panel { name: Name::Far, root: 4, middle: 5, lowest: 6 };
+    let near = Panel {
+        name: Name::Near,
+        root: 1,
+        middle: 2,
+        lowest: 3,
+    };
+    let far = Panel {
+        name: Name::Far,
+        root: 4,
+        middle: 5,
+        lowest: 6,
+    };
     near.build(&mut memory, 8)?;
     far.build(&mut memory, 11)?;
     show_all(rt, &memory, &near)?;

@@ -17,10 +17,12 @@ pub enum Name {
 
 pub impl fmt::Display for Name as NameDisplay {
     fn fmt<W: fmt::Write>(&self, f: &mut fmt::Formatter<W>) -> fmt::Result {
-        f.write_str(match *self {
-            Name::Near => "near",
-            Name::Far => "far",
-        })
+        f.write_str(
+            match *self {
+                Name::Near => "near",
+                Name::Far => "far",
+            },
+        )
     }
 }
 
@@ -48,9 +50,22 @@ impl Panel {
     pub fn build<M: Memory>(&self, memory: &mut M, frame: u64) -> Result<(), AnyError> {
         put(memory, self.root, 0, Entry::pointer(self.middle)?)?;
         put(memory, self.middle, 0, Entry::pointer(self.lowest)?)?;
-        put(memory, self.middle, 1, Entry::leaf(0x200, rights(true, true, false, true))?)?;
-        self.put_page(memory, 0x1000, Entry::leaf(frame, rights(true, true, false, true))?)?;
-        self.put_page(memory, 0x2000, Entry::leaf(frame.saturating_add(1), rights(false, false, true, true))?)?;
+        put(
+            memory,
+            self.middle,
+            1,
+            Entry::leaf(0x200, rights(true, true, false, true))?,
+        )?;
+        self.put_page(
+            memory,
+            0x1000,
+            Entry::leaf(frame, rights(true, true, false, true))?,
+        )?;
+        self.put_page(
+            memory,
+            0x2000,
+            Entry::leaf(frame.saturating_add(1), rights(false, false, true, true))?,
+        )?;
         let own = Entry::leaf(frame.saturating_add(2), rights(true, true, false, false))?;
         self.put_page(memory, 0x3000, own)?;
         let mut fresh = own.flags;

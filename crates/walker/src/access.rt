@@ -31,20 +31,24 @@ pub struct Access {
 
 pub impl fmt::Display for Kind as KindDisplay {
     fn fmt<W: fmt::Write>(&self, f: &mut fmt::Formatter<W>) -> fmt::Result {
-        f.write_str(match *self {
-            Kind::Fetch => "fetch",
-            Kind::Load => "load",
-            Kind::Store => "store",
-        })
+        f.write_str(
+            match *self {
+                Kind::Fetch => "fetch",
+                Kind::Load => "load",
+                Kind::Store => "store",
+            },
+        )
     }
 }
 
 pub impl fmt::Display for Mode as ModeDisplay {
     fn fmt<W: fmt::Write>(&self, f: &mut fmt::Formatter<W>) -> fmt::Result {
-        f.write_str(match *self {
-            Mode::User => "user",
-            Mode::Supervisor => "supervisor",
-        })
+        f.write_str(
+            match *self {
+                Mode::User => "user",
+                Mode::Supervisor => "supervisor",
+            },
+        )
     }
 }
 

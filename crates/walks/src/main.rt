@@ -20,7 +20,9 @@ struct Board {
 
 impl Board {
     fn of_size(heap: Global, size: usize) -> Result<Board, AnyError> {
-        Ok(Board { words: vec![in heap; 0; size]? })
+        Ok(Board {
+            words: vec![in heap; 0; size]?,
+        })
     }
 
     /// Sets a doubleword, as `N:VALUE` says.
@@ -48,12 +50,16 @@ fn run_all(rt: &LibcRuntime) -> Result<(), AnyError> {
         match words.next() {
             Some("memory") => {
                 let _name = words.next();
-                let size = vectors::number(words.next().unwrap_or("")).ok_or("a memory without a size")?;
+                let size = vectors::number(words.next().unwrap_or("")).ok_or(
+                    "a memory without a size",
+                )?;
                 board = Board::of_size(heap, size as usize)?;
             }
             Some("words") => {
                 for assignment in words {
-                    board.set(assignment).ok_or("a doubleword that does not fit")?;
+                    board
+                        .set(assignment)
+                        .ok_or("a doubleword that does not fit")?;
                 }
             }
             Some("case") => {

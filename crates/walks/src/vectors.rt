@@ -36,8 +36,18 @@ impl Case {
         if words.next().is_some() {
             return None;
         }
-        let access = Access { address, kind, mode, sum, mxr };
-        Some(Case { number: no, root, access })
+        let access = Access {
+            address,
+            kind,
+            mode,
+            sum,
+            mxr,
+        };
+        Some(Case {
+            number: no,
+            root,
+            access,
+        })
     }
 }
 
@@ -76,7 +86,11 @@ pub enum Outcome {
 impl Outcome {
     pub fn of(answer: Result<Translation, WalkFault>) -> Outcome {
         match answer {
-            Ok(t) => Outcome::Found { frame: t.frame, level: t.level, leaf: t.leaf.pack() },
+            Ok(t) => Outcome::Found {
+                frame: t.frame,
+                level: t.level,
+                leaf: t.leaf.pack(),
+            },
             Err(fault) => Outcome::Fault(fault),
         }
     }

@@ -22,6 +22,7 @@ returns-then-n-size c =
       bytes = sym (cond-false (ltb (c .args .n) (blocksIn b * 63)) _ _ (le-ltb (c .args .n) (blocksIn b * 63) (omega arith)));
       tail = refl;
       clean = λ h. h;
+      lender = refl;
     }
 
 pub store-requires : need.store-requires
@@ -42,4 +43,5 @@ returns c =
       bytes = after ∙ sym (cond-true (ltb n (blocksIn b * 63)) _ _ (lt-ltb n (blocksIn b * 63) inside));
       tail = ap (drop (512 * blocksIn b)) after ∙ done-tail b n v inside;
       clean = clean-kept b (c .store .last .bytes) (ap length after ∙ length-done b n v inside) (c .store .ensures .sound);
+      lender = refl;
     }
