@@ -7,18 +7,18 @@ use lib.ListN.{replicate}
 use Rattle.std.specs.declared.result.Result.{Result}
 use Rattle.std.specs.declared.result.Result.the-variants.{Ok, Err}
 use Rattle.memory.specs.Block.{checkOf}
-use Rattle.walker.specs.declared.access.Access.{Access}
-use Rattle.walker.specs.declared.access.Kind.the-variants.{Load}
-use Rattle.walker.specs.declared.access.Mode.the-variants.{User}
-use Rattle.walker.specs.declared.entry.Entry.{Entry}
-use Rattle.walker.specs.declared.entry.Flags.{Flags}
-use Rattle.walker.specs.declared.entry.Rights.{Rights}
+use Rattle.sv39.specs.declared.access.Access.{Access}
+use Rattle.sv39.specs.declared.access.Kind.the-variants.{Load}
+use Rattle.sv39.specs.declared.access.Mode.the-variants.{User}
+use Rattle.sv39.specs.declared.entry.Entry.{Entry}
+use Rattle.sv39.specs.declared.entry.Flags.{Flags}
+use Rattle.sv39.specs.declared.entry.Rights.{Rights}
 use Rattle.walker.specs.declared.fault.Stop.the-variants.{Misaligned}
 use Rattle.walker.specs.declared.walking.Step.the-variants.{Leaf}
-use Rattle.walker.specs.Address.{canonical}
+use Rattle.sv39.specs.Address.{canonical}
 use Rattle.walker.specs.Laws.{at}
-use Rattle.walker.specs.Layout.{packed}
-use Rattle.walker.specs.Making.{leafFlags, pointerFlags}
+use Rattle.sv39.specs.Layout.{packed}
+use Rattle.sv39.specs.Making.{leafFlags, pointerFlags}
 use Rattle.walker.specs.Reported.{stopNumber}
 use Rattle.walker.specs.Walk.{decided}
 

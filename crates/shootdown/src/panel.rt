@@ -3,10 +3,10 @@ use memory::BeyondError;
 use memory::Memory;
 use std::error::AnyError;
 use std::fmt;
-use walker::Entry;
-use walker::Rights;
-use walker::TooWideError;
-use walker::indexes;
+use sv39::Entry;
+use sv39::Rights;
+use sv39::TooWideError;
+use sv39::indexes;
 
 /// Which of the two displays it draws.
 #[derive(Clone, Copy)]

@@ -1,4 +1,3 @@
-pub mod Entries
 pub mod Locality
 pub mod Pages
 pub mod Serving

@@ -11,9 +11,9 @@ use Rattle.std.proofs.shelf.Bits.{pow-add}
 use Rattle.std.specs.declared.result.Result.{Result}
 use Rattle.std.specs.declared.result.Result.the-variants.{Ok, Err}
 use Rattle.memory.specs.Cells.{beyond}
-use Rattle.walker.specs.declared.access.Kind.{Kind}
-use Rattle.walker.specs.declared.access.Mode.{Mode}
-use Rattle.walker.specs.declared.entry.Entry.{Entry}
+use Rattle.sv39.specs.declared.access.Kind.{Kind}
+use Rattle.sv39.specs.declared.access.Mode.{Mode}
+use Rattle.sv39.specs.declared.entry.Entry.{Entry}
 use Rattle.walker.specs.declared.fault.Stop.{Stop}
 use Rattle.walker.specs.declared.fault.Stop.the-variants.{EntryBeyond, PointerAtZero}
 use Rattle.walker.specs.declared.fault.WalkFault.{WalkFault}
@@ -21,8 +21,8 @@ use Rattle.walker.specs.declared.fault.WalkFault.the-variants.{RootTooWide, No
 use Rattle.walker.specs.declared.walking.Step.{Step}
 use Rattle.walker.specs.declared.walking.Step.the-variants.{Pointer, Leaf}
 use Rattle.walker.specs.declared.walking.Translation.{Translation}
-use Rattle.walker.specs.Address.{canonical, page, pageNumber, index, entryOf, frameOf}
-use Rattle.walker.specs.Layout.{bit, unpacked}
+use Rattle.sv39.specs.Address.{canonical, page, pageNumber, index, entryOf, frameOf}
+use Rattle.sv39.specs.Layout.{bit, unpacked}
 use Rattle.walker.specs.Laws.{at, Goes-by-page}
 use Rattle.walker.specs.Walk.{decided, lookOf, stopped, onward, walkFrom, found}
 

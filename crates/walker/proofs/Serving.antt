@@ -10,9 +10,9 @@ use Rattle.std.specs.declared.result.Result.{Result}
 use Rattle.std.specs.declared.result.Result.the-variants.{Ok, Err}
 use Rattle.std.proofs.shelf.Tests.{cond-true, cond-false}
 use Rattle.memory.specs.Cells.{beyond}
-use Rattle.walker.specs.declared.access.Access.{Access}
-use Rattle.walker.specs.declared.entry.Entry.{Entry}
-use Rattle.walker.specs.declared.entry.Flags.{Flags}
+use Rattle.sv39.specs.declared.access.Access.{Access}
+use Rattle.sv39.specs.declared.entry.Entry.{Entry}
+use Rattle.sv39.specs.declared.entry.Flags.{Flags}
 use Rattle.walker.specs.declared.fault.Stop.{Stop}
 use Rattle.walker.specs.declared.fault.Stop.the-variants.{EntryBeyond, Invalid, WriteOnly, PointerAtZero, Rights, Misaligned, Marks, FrameBeyond}
 use Rattle.walker.specs.declared.fault.WalkFault.{WalkFault}
@@ -20,11 +20,11 @@ use Rattle.walker.specs.declared.fault.WalkFault.the-variants.{RootTooWide, No
 use Rattle.walker.specs.declared.walking.Step.{Step}
 use Rattle.walker.specs.declared.walking.Step.the-variants.{Pointer, Leaf}
 use Rattle.walker.specs.declared.walking.Translation.{Translation}
-use Rattle.walker.specs.Address.{canonical, page, pageNumber, entryOf, frameOf, doublewordOf}
+use Rattle.sv39.specs.Address.{canonical, page, pageNumber, entryOf, frameOf, doublewordOf}
 use Rattle.walker.specs.House.{pointer, pointerUnseen, seen}
-use Rattle.walker.specs.Layout.{unpacked}
+use Rattle.sv39.specs.Layout.{unpacked}
 use Rattle.walker.specs.Laws.{Leaf-serves}
-use Rattle.walker.specs.Rules.{permits, marked}
+use Rattle.sv39.specs.Rules.{permits, marked}
 use Rattle.walker.specs.Walk.{misaligned, translated, decided, lookOf, stopped, onward, walkFrom, found, lastStep}
 use Rattle.walker.proofs.Pages.{number-of-page, canonical-same, entry-same-page, frame-same-page}
 use Rattle.walker.proofs.Steps.{last-inside}

@@ -10,7 +10,7 @@ use Rattle.std.specs.declared.result.Result.{Result}
 use Rattle.std.specs.declared.result.Result.the-variants.{Ok, Err}
 use Rattle.std.proofs.shelf.Tests.{lt-ltb, le-ltb, cond-true, cond-false}
 use Rattle.memory.specs.Cells.{beyond}
-use Rattle.walker.specs.declared.access.Access.{Access}
+use Rattle.sv39.specs.declared.access.Access.{Access}
 use Rattle.walker.specs.declared.fault.Stop.{Stop}
 use Rattle.walker.specs.declared.fault.Stop.the-variants.{EntryBeyond, PointerAtZero, FrameBeyond}
 use Rattle.walker.specs.declared.fault.WalkFault.{WalkFault}
@@ -18,8 +18,8 @@ use Rattle.walker.specs.declared.fault.WalkFault.the-variants.{RootTooWide, No
 use Rattle.walker.specs.declared.walking.Step.{Step}
 use Rattle.walker.specs.declared.walking.Step.the-variants.{Pointer, Leaf}
 use Rattle.walker.specs.declared.walking.Translation.{Translation}
-use Rattle.walker.specs.Address.{canonical, entryOf, doublewordOf}
-use Rattle.walker.specs.Layout.{unpacked}
+use Rattle.sv39.specs.Address.{canonical, entryOf, doublewordOf}
+use Rattle.sv39.specs.Layout.{unpacked}
 use Rattle.walker.specs.Walk.{decided, lookOf, stopped, onward, walkFrom, found, lastStep, faulted, stepOf}
 
 module _ (cells : List ℕ) (q : Access) where

@@ -1,8 +1,8 @@
 -- Two rules of this walk where the standard, from its version 1.12 on, would fault: what it does not look at.
 use mathlib.Core.Bool.{Bool, false, cond, not, _&&_}
 use lib.Dec.{lit<}
-use Rattle.walker.specs.declared.entry.Flags.{Flags}
-use Rattle.walker.specs.declared.entry.Entry.{Entry}
+use Rattle.sv39.specs.declared.entry.Flags.{Flags}
+use Rattle.sv39.specs.declared.entry.Entry.{Entry}
 
 -- with R and X clear an entry points to the next table
 abbrev pub pointer : Flags → Bool

@@ -9,17 +9,17 @@ use Rattle.std.specs.declared.option.Option.{Option}
 use Rattle.std.specs.declared.option.Option.the-variants.{Some, None}
 use Rattle.std.specs.declared.result.Result.{Result}
 use Rattle.std.specs.declared.result.Result.the-variants.{Ok, Err}
-use Rattle.walker.specs.declared.access.Access.{Access}
-use Rattle.walker.specs.declared.access.Kind.{Kind}
-use Rattle.walker.specs.declared.access.Mode.{Mode}
+use Rattle.sv39.specs.declared.access.Access.{Access}
+use Rattle.sv39.specs.declared.access.Kind.{Kind}
+use Rattle.sv39.specs.declared.access.Mode.{Mode}
 use Rattle.walker.specs.declared.fault.Stop.{Stop}
 use Rattle.walker.specs.declared.fault.WalkFault.{WalkFault}
 use Rattle.walker.specs.declared.fault.WalkFault.the-variants.{RootTooWide, NotCanonical, Stopped}
 use Rattle.walker.specs.declared.walking.Step.{Step}
 use Rattle.walker.specs.declared.walking.Step.the-variants.{Pointer, Leaf}
 use Rattle.walker.specs.declared.walking.Translation.{Translation}
-use Rattle.walker.specs.Address.{canonical, page, entryOf, doublewordOf}
-use Rattle.walker.specs.Rules.{permits, marked}
+use Rattle.sv39.specs.Address.{canonical, page, entryOf, doublewordOf}
+use Rattle.sv39.specs.Rules.{permits, marked}
 use Rattle.walker.specs.Walk.{lookOf, found, walked}
 
 -- the entries that a walk reads, one a level while it meets pointers

@@ -3,13 +3,13 @@ use Prim.Native.Nat.{ℕ}
 use Rattle.std.specs.declared.option.Option.{Option}
 use Rattle.std.specs.declared.option.Option.the-variants.{Some, None}
 use Rattle.memory.specs.declared.beyond.Beyond.{Beyond}
-use Rattle.walker.specs.declared.access.Kind.{Kind}
+use Rattle.sv39.specs.declared.access.Kind.{Kind}
 use Rattle.walker.specs.declared.fault.Stop.{Stop}
 use Rattle.walker.specs.declared.fault.Stop.the-variants.{EntryBeyond, Invalid, WriteOnly, PointerAtZero, Rights, Misaligned, Marks, FrameBeyond}
 use Rattle.walker.specs.declared.fault.WalkFault.{WalkFault}
 use Rattle.walker.specs.declared.fault.WalkFault.the-variants.{RootTooWide, NotCanonical, Stopped}
 use Rattle.walker.specs.declared.fault.Report.{Report}
-use Rattle.walker.specs.Rules.{pageFault, accessFault}
+use Rattle.sv39.specs.Rules.{pageFault, accessFault}
 
 abbrev pub stopNumber : Stop → ℕ
 stopNumber Invalid = 32

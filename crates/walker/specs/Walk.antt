@@ -7,9 +7,9 @@ use lib.ListN.{length, getD}
 use Rattle.std.specs.declared.result.Result.{Result}
 use Rattle.std.specs.declared.result.Result.the-variants.{Ok, Err}
 use Rattle.memory.specs.Cells.{beyond}
-use Rattle.walker.specs.declared.access.Access.{Access}
-use Rattle.walker.specs.declared.entry.Entry.{Entry}
-use Rattle.walker.specs.declared.entry.TooWide.{TooWide}
+use Rattle.sv39.specs.declared.access.Access.{Access}
+use Rattle.sv39.specs.declared.entry.Entry.{Entry}
+use Rattle.sv39.specs.declared.entry.TooWide.{TooWide}
 use Rattle.walker.specs.declared.fault.Stop.{Stop}
 use Rattle.walker.specs.declared.fault.Stop.the-variants.{EntryBeyond, Invalid, WriteOnly, PointerAtZero, Rights, Misaligned, Marks, FrameBeyond}
 use Rattle.walker.specs.declared.fault.WalkFault.{WalkFault}
@@ -17,10 +17,10 @@ use Rattle.walker.specs.declared.fault.WalkFault.the-variants.{RootTooWide, No
 use Rattle.walker.specs.declared.walking.Step.{Step}
 use Rattle.walker.specs.declared.walking.Step.the-variants.{Pointer, Leaf}
 use Rattle.walker.specs.declared.walking.Translation.{Translation}
-use Rattle.walker.specs.Address.{canonical, entryOf, frameOf, doublewordOf}
+use Rattle.sv39.specs.Address.{canonical, entryOf, frameOf, doublewordOf}
 use Rattle.walker.specs.House.{pointer, seen}
-use Rattle.walker.specs.Layout.{unpacked}
-use Rattle.walker.specs.Rules.{permits, marked}
+use Rattle.sv39.specs.Layout.{unpacked}
+use Rattle.sv39.specs.Rules.{permits, marked}
 
 -- a leaf above level 0 whose PPN has one of its low 9 bits a level set
 abbrev pub misaligned : ℕ → ℕ → Bool

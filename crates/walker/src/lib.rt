@@ -1,40 +1,8 @@
-// The walker: table entries, addresses, accesses and the walk of Sv39 page tables over any memory.
-mod access;
-mod address;
-mod entry;
+// The walk of Sv39 page tables over any memory, its faults and its laws.
 mod fault;
 mod laws;
-mod packing;
 mod walking;
 
-pub use access::Access;
-pub use access::AccessDebug;
-pub use access::AccessPartialEq;
-pub use access::Kind;
-pub use access::KindDebug;
-pub use access::KindDisplay;
-pub use access::KindPartialEq;
-pub use access::Mode;
-pub use access::ModeDebug;
-pub use access::ModeDisplay;
-pub use access::ModePartialEq;
-pub use address::indexes;
-pub use address::is_canonical;
-pub use address::page_of;
-pub use entry::Entry;
-pub use entry::EntryDebug;
-pub use entry::EntryPartialEq;
-pub use entry::Flags;
-pub use entry::FlagsDebug;
-pub use entry::FlagsPartialEq;
-pub use entry::Rights;
-pub use entry::RightsDebug;
-pub use entry::RightsPartialEq;
-pub use entry::TooWide;
-pub use entry::TooWideDebug;
-pub use entry::TooWideDisplay;
-pub use entry::TooWideError;
-pub use entry::TooWidePartialEq;
 pub use fault::Report;
 pub use fault::ReportDebug;
 pub use fault::ReportPartialEq;

@@ -1,9 +1,9 @@
 // The words of a vector file, and what is printed of a walk.
 use std::fmt;
 use std::str::Split;
-use walker::Access;
-use walker::Kind;
-use walker::Mode;
+use sv39::Access;
+use sv39::Kind;
+use sv39::Mode;
 use walker::Translation;
 use walker::WalkFault;
 

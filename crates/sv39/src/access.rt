@@ -1,6 +1,6 @@
 // An access as the walk is asked for it, and the two rules that a leaf's flags are held to.
 ghost use mathlib.Core.Path.{_≡_};
-ghost use Rattle.walker.specs.Rules.{permits, marked, pageFault, accessFault};
+ghost use Rattle.sv39.specs.Rules.{permits, marked, pageFault, accessFault};
 use crate::Flags;
 use std::fmt;
 

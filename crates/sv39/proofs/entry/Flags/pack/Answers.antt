@@ -1,6 +1,6 @@
 use native.Mathlib.Omega.{arith}
-use Rattle.walker.proofs.Entries.{flag-number}
-use Rattle.walker.proofs.entry.Flags.pack.Needs as need
+use Rattle.sv39.proofs.Entries.{flag-number}
+use Rattle.sv39.proofs.entry.Flags.pack.Needs as need
 
 pub returns : need.returns
 returns c =

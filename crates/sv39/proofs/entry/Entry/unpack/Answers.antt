@@ -1,8 +1,8 @@
 use Prim.Native.Nat.{ℕ, _/_, _^_}
 use mathlib.Core.Path.{refl}
 use Rattle.std.proofs.shelf.Bits.{and-mask}
-use Rattle.walker.proofs.Entries.{unpacked-by, packed-by}
-use Rattle.walker.proofs.entry.Entry.unpack.Needs as need
+use Rattle.sv39.proofs.Entries.{unpacked-by, packed-by}
+use Rattle.sv39.proofs.entry.Entry.unpack.Needs as need
 
 pub returns : need.returns
 returns c =

@@ -2,7 +2,7 @@
 use Prim.Native.Nat.{ℕ, _+_, _-_, _*_, _/_, _%_, _^_}
 use mathlib.Core.Bool.{Bool, cond}
 use lib.Dec.{eqb}
-use Rattle.walker.specs.Layout.{bit}
+use Rattle.sv39.specs.Layout.{bit}
 
 -- bits 39 to 63 all equal bit 38
 abbrev pub canonical : ℕ → Bool

@@ -3,8 +3,8 @@ use Prim.Native.Nat.{ℕ, _+_, _*_, _/_, _%_, _^_}
 use mathlib.Core.Bool.{Bool, cond}
 use native.Mathlib.Nat.{mod-lt}
 use lib.Dec.{eqb, lit<}
-use Rattle.walker.specs.declared.entry.Flags.{Flags}
-use Rattle.walker.specs.declared.entry.Entry.{Entry}
+use Rattle.sv39.specs.declared.entry.Flags.{Flags}
+use Rattle.sv39.specs.declared.entry.Entry.{Entry}
 
 -- bit k of a doubleword
 abbrev pub bit : ℕ → ℕ → Bool

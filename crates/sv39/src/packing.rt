@@ -1,8 +1,8 @@
 // Entries from doublewords, from numbers, and back.
 ghost use mathlib.Core.Path.{_≡_};
 ghost use Prim.Native.Nat.{_+_, _*_, _/_, _%_, _^_, _<_, _≤_};
-ghost use Rattle.walker.specs.Making.{Made, leafFlags, pointerFlags, withFlags};
-ghost use Rattle.walker.specs.Layout.{bit, flagsOf, packedFlags, unpacked, packed};
+ghost use Rattle.sv39.specs.Making.{Made, leafFlags, pointerFlags, withFlags};
+ghost use Rattle.sv39.specs.Layout.{bit, flagsOf, packedFlags, unpacked, packed};
 use crate::Entry;
 use crate::Flags;
 use crate::Rights;

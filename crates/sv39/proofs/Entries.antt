@@ -10,9 +10,9 @@ use Prim.Native.Nat.{ℕ, _+_, _*_, _/_, _%_, _^_, _≤_, _<_}
 use lib.Dec.{eqb, lit<}
 use mir.Val.{boolByte}
 use Rattle.std.proofs.shelf.Tests.{cases-eq, eq-eqb, ne-eqb}
-use Rattle.walker.specs.declared.entry.Flags.{Flags}
-use Rattle.walker.specs.declared.entry.Entry.{Entry}
-use Rattle.walker.specs.Layout.{bit, one, flagsOf, packedFlags, unpacked, packed}
+use Rattle.sv39.specs.declared.entry.Flags.{Flags}
+use Rattle.sv39.specs.declared.entry.Entry.{Entry}
+use Rattle.sv39.specs.Layout.{bit, one, flagsOf, packedFlags, unpacked, packed}
 
 pub entry-same : (e f : Entry) → e .flags ≡ f .flags → e .rsw ≡ f .rsw → e .ppn ≡ f .ppn → e .top ≡ f .top → e ≡ f
 entry-same e f p q r s =

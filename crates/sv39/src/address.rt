@@ -2,7 +2,7 @@
 ghost use mathlib.Core.Path.{_≡_};
 ghost use mathlib.Core.List.{[], _∷_};
 ghost use Prim.Native.Nat.{_≤_, _<_};
-ghost use Rattle.walker.specs.Address.{canonical, index, page};
+ghost use Rattle.sv39.specs.Address.{canonical, index, page};
 
 /// Whether bits 39 to 63 all equal bit 38.
 pub fn is_canonical(address: u64) -> bool
@@ -12,8 +12,8 @@ pub fn is_canonical(address: u64) -> bool
     high == 0 || high == 0x3ff_ffff
 }
 
-/// The index of an address into a table of a level.
-pub(crate) fn index_at(address: u64, level: u8) -> u64
+/// The index of an address into a table of a level. For the crates of this part alone: it asks that the level is one.
+pub fn index_at(address: u64, level: u8) -> u64
     requires { ⌜ level ≤ 2 ⌝ }
     ensures value { λ r. ⌜ r ≡ index address level ⌝ }
     ensures bound { λ r. ⌜ r < 512 ⌝ }

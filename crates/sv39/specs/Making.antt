@@ -4,10 +4,10 @@ use mathlib.Core.Bool.{true, false}
 use mathlib.Core.Path.{_≡_}
 use Rattle.std.specs.declared.result.Result.{Result}
 use Rattle.std.specs.declared.result.Result.the-variants.{Ok, Err}
-use Rattle.walker.specs.declared.entry.Flags.{Flags}
-use Rattle.walker.specs.declared.entry.Rights.{Rights}
-use Rattle.walker.specs.declared.entry.Entry.{Entry}
-use Rattle.walker.specs.declared.entry.TooWide.{TooWide}
+use Rattle.sv39.specs.declared.entry.Flags.{Flags}
+use Rattle.sv39.specs.declared.entry.Rights.{Rights}
+use Rattle.sv39.specs.declared.entry.Entry.{Entry}
+use Rattle.sv39.specs.declared.entry.TooWide.{TooWide}
 
 -- fields that are within their widths
 abbrev pub Narrow : ℕ → ℕ → ℕ → Type 0

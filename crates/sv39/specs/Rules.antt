@@ -1,12 +1,12 @@
 -- What a leaf's flags allow, and the standard's codes.
 use Prim.Native.Nat.{ℕ}
 use mathlib.Core.Bool.{Bool, _&&_, _||_, not}
-use Rattle.walker.specs.declared.entry.Flags.{Flags}
-use Rattle.walker.specs.declared.access.Kind.{Kind}
-use Rattle.walker.specs.declared.access.Kind.the-variants.{Fetch, Load, Store}
-use Rattle.walker.specs.declared.access.Mode.{Mode}
-use Rattle.walker.specs.declared.access.Mode.the-variants.{User, Supervisor}
-use Rattle.walker.specs.declared.access.Access.{Access}
+use Rattle.sv39.specs.declared.entry.Flags.{Flags}
+use Rattle.sv39.specs.declared.access.Kind.{Kind}
+use Rattle.sv39.specs.declared.access.Kind.the-variants.{Fetch, Load, Store}
+use Rattle.sv39.specs.declared.access.Mode.{Mode}
+use Rattle.sv39.specs.declared.access.Mode.the-variants.{User, Supervisor}
+use Rattle.sv39.specs.declared.access.Access.{Access}
 
 -- a fetch needs X; a load R, or X under MXR; a store W
 abbrev pub granted : Flags → Kind → Bool → Bool

@@ -1,0 +1,4 @@
+pub mod Address
+pub mod Layout
+pub mod Making
+pub mod Rules

@@ -1,0 +1,35 @@
+// Sv39: table entries, addresses, and accesses with the rules that a leaf's flags are held to.
+mod access;
+mod address;
+mod entry;
+mod packing;
+
+pub use access::Access;
+pub use access::AccessDebug;
+pub use access::AccessPartialEq;
+pub use access::Kind;
+pub use access::KindDebug;
+pub use access::KindDisplay;
+pub use access::KindPartialEq;
+pub use access::Mode;
+pub use access::ModeDebug;
+pub use access::ModeDisplay;
+pub use access::ModePartialEq;
+pub use address::index_at;
+pub use address::indexes;
+pub use address::is_canonical;
+pub use address::page_of;
+pub use entry::Entry;
+pub use entry::EntryDebug;
+pub use entry::EntryPartialEq;
+pub use entry::Flags;
+pub use entry::FlagsDebug;
+pub use entry::FlagsPartialEq;
+pub use entry::Rights;
+pub use entry::RightsDebug;
+pub use entry::RightsPartialEq;
+pub use entry::TooWide;
+pub use entry::TooWideDebug;
+pub use entry::TooWideDisplay;
+pub use entry::TooWideError;
+pub use entry::TooWidePartialEq;
