@@ -3,18 +3,18 @@ ghost use mathlib.Core.Path.{_≡_};
 ghost use Rattle.walker.specs.declared.fault.Stop.the-variants.{EntryBeyond};
 ghost use Rattle.walker.specs.declared.fault.WalkFault.the-variants.{RootTooWide};
 ghost use Rattle.walker.specs.Reported.{reported, stopNumber};
-use sv39::Kind;
-use sv39::TooWide;
-use sv39::KindDebug;
-use sv39::KindPartialEq;
-use sv39::TooWideDebug;
-use sv39::TooWidePartialEq;
 use memory::Beyond;
 use memory::BeyondDebug;
 use memory::BeyondDisplay;
 use memory::BeyondPartialEq;
 use std::error::Error;
 use std::fmt;
+use sv39::Kind;
+use sv39::KindDebug;
+use sv39::KindPartialEq;
+use sv39::TooWide;
+use sv39::TooWideDebug;
+use sv39::TooWidePartialEq;
 
 /// What stopped a walk at an entry, in the order in which a walk looks.
 #[derive(Clone, Copy, PartialEq, Eq, Debug)]
@@ -40,8 +40,8 @@ pub enum Stop {
 pub impl From<Beyond> for Stop as StopFromBeyond {
     ghost converts = { λ b r. r ≡ EntryBeyond b };
 
-    fn from(b: Beyond) -> Stop {
-        Stop::EntryBeyond(b)
+    fn from(refusal: Beyond) -> Stop {
+        Stop::EntryBeyond(refusal)
     }
 }
 

@@ -6,19 +6,19 @@ ghost use Rattle.std.specs.Results.{Cases};
 ghost use Rattle.std.specs.Vec.{made};
 ghost use Rattle.sv39.specs.Address.{entryOf, frameOf, doublewordOf};
 ghost use Rattle.walker.specs.Walk.{decided, lookOf, stepOf, walkFrom, walked, StepWithin};
-use sv39::Access;
-use sv39::Entry;
 use crate::Stop;
 use crate::StopFromBeyond;
-use sv39::TooWide;
 use crate::WalkFault;
 use crate::WalkFaultFromTooWide;
-use sv39::index_at;
-use sv39::is_canonical;
-use sv39::EntryDebug;
-use sv39::EntryPartialEq;
 use memory::Beyond;
 use memory::Memory;
+use sv39::Access;
+use sv39::Entry;
+use sv39::EntryDebug;
+use sv39::EntryPartialEq;
+use sv39::TooWide;
+use sv39::index_at;
+use sv39::is_canonical;
 
 /// Where an access comes to: a frame, and the leaf that says so with its level.
 #[derive(Clone, Copy, PartialEq, Eq, Debug)]

@@ -17,21 +17,21 @@ use sv39::Kind;
 use sv39::KindDebug;
 use sv39::KindPartialEq;
 use sv39::Mode;
-use walker::Report;
-use walker::ReportDebug;
-use walker::ReportPartialEq;
 use sv39::Rights;
 use sv39::TooWide;
 use sv39::TooWideDebug;
 use sv39::TooWidePartialEq;
+use sv39::indexes;
+use sv39::is_canonical;
+use sv39::page_of;
+use walker::Report;
+use walker::ReportDebug;
+use walker::ReportPartialEq;
 use walker::TranslationDebug;
 use walker::TranslationPartialEq;
 use walker::WalkFault;
 use walker::WalkFaultDebug;
 use walker::WalkFaultPartialEq;
-use sv39::indexes;
-use sv39::is_canonical;
-use sv39::page_of;
 use walker::walk;
 
 /// Four frames: the root in 1, a table of level 1 in 2, one of level 0 in 3.

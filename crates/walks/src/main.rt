@@ -1,6 +1,10 @@
 // Runs walk vectors: memories and cases from standard input, a line for each case to standard output.
 mod vectors;
 
+ghost use mathlib.Core.Path.{_≡_};
+ghost use Rattle.std.specs.Of.Vec.{vec-items};
+ghost use Rattle.walker.specs.Walk.{walked};
+ghost use Rattle.walks.specs.Outcomes.{outcomeOf};
 use memory::Words;
 use memory::WordsMemory;
 use std::alloc::Global;
@@ -35,7 +39,10 @@ impl Board {
         Some(())
     }
 
-    fn run(&mut self, case: &Case) -> Outcome {
+    /// What the walk of a case comes to in this memory.
+    fn run(&mut self, case: &Case) -> Outcome
+        ensures { λ r. ⌜ r ≡ outcomeOf (walked (vec-items (now (self .entry) .words)) (now (case .entry) .root) (now (case .entry) .access)) ⌝ }
+    {
         let memory = Words::new(&mut self.words);
         Outcome::of(walk(&memory, case.root, &case.access))
     }

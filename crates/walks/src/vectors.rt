@@ -1,4 +1,6 @@
 // The words of a vector file, and what is printed of a walk.
+ghost use mathlib.Core.Path.{_≡_};
+ghost use Rattle.walks.specs.Outcomes.{outcomeOf};
 use std::fmt;
 use std::str::Split;
 use sv39::Access;
@@ -84,7 +86,9 @@ pub enum Outcome {
 }
 
 impl Outcome {
-    pub fn of(answer: Result<Translation, WalkFault>) -> Outcome {
+    pub fn of(answer: Result<Translation, WalkFault>) -> Outcome
+        ensures { λ r. ⌜ r ≡ outcomeOf answer ⌝ }
+    {
         match answer {
             Ok(t) => Outcome::Found {
                 frame: t.frame,
