@@ -1,9 +1,12 @@
 -- The values that settle how the rules are read.
 use Prim.Native.Nat.{ℕ, _^_, _<_}
-use mathlib.Core.Bool.{true, false}
+use mathlib.Core.Bool.{Bool, true, false}
+use mathlib.Core.List.{List, [], _∷_}
 use mathlib.Core.Path.{_≡_}
 use lib.Dec.{lit<}
-use lib.ListN.{replicate}
+use lib.ListN.{replicate, set}
+use Rattle.std.specs.Iters.{counting}
+use Rattle.std.specs.declared.option.Option.the-variants.{Some}
 use Rattle.std.specs.declared.result.Result.{Result}
 use Rattle.std.specs.declared.result.Result.the-variants.{Ok, Err}
 use Rattle.memory.specs.Block.{checkOf}
@@ -21,6 +24,9 @@ use Rattle.sv39.specs.Layout.{packed}
 use Rattle.sv39.specs.Making.{leafFlags, pointerFlags}
 use Rattle.walker.specs.Reported.{stopNumber}
 use Rattle.walker.specs.Walk.{decided}
+use Rattle.policy.specs.Dial.{swept}
+use Rattle.policy.specs.Laws.{touchedAll}
+use Rattle.policy.specs.Tree.{followed}
 
 -- rights r, w and u
 abbrev pub rwu : Rights
@@ -33,6 +39,14 @@ entry flags ppn fits = record { flags = flags; rsw = 0; ppn = ppn; top = 0; narr
 -- a user's load
 abbrev pub load : ℕ → Access
 load address = at address Load User false false
+
+-- bits or marks that are all clear, and marks after touches of these ways
+abbrev pub clear : List Bool
+clear = replicate 16 false
+
+abbrev pub markedAll : List Bool → List ℕ → List Bool
+markedAll marks [] = marks
+markedAll marks (way ∷ ways) = markedAll (set marks way true) ways
 
 pub record Settled : Type 0 where
   -- the edges of what is canonical
@@ -49,3 +63,10 @@ pub record Settled : Type 0 where
   -- the checks of zero data in blocks 0 and 1
   pub check-0 : checkOf (replicate 1024 0) 0 ≡ 2 ^ 59
   pub check-1 : checkOf (replicate 1024 0) 1 ≡ 2 ^ 60
+  -- Tree-PLRU, fresh, after touch 0, and after touch 8 too
+  pub plru-fresh : followed clear ≡ 0
+  pub plru-after-0 : followed (touchedAll clear (0 ∷ [])) ≡ 8
+  pub plru-after-8 : followed (touchedAll clear (0 ∷ 8 ∷ [])) ≡ 4
+  -- CLOCK, fresh, after touch 0, and after touches 0 to 15
+  pub clock-after-0 : swept (markedAll clear (0 ∷ [])) 0 (Some 0) .way ≡ 1
+  pub clock-after-all : swept (markedAll clear (counting 0 16)) 0 (Some 15) .way ≡ 0

@@ -1,0 +1,3 @@
+// Tests of the policies, and of the adversary that tests of the machine use.
+#[cfg(test)]
+mod picks;
