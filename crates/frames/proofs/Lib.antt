@@ -1,0 +1,4 @@
+pub mod Counting
+pub mod Soundness
+pub mod Stacks
+pub mod Takes
