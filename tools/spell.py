@@ -5,7 +5,8 @@ usage: python3 tools/spell.py [FOLDER] [--names]
 
 FOLDER (the top of a checkout, here by default) is rewritten in place. Every name that an .antt file of crates/ defines is
 turned where an .antt file, a clause or a ghost item speaks of it, and where a page of docs/ or the README names it between
-backticks. Functions of src/, strings, inputs and outputs are left. --names prints each old name with its new one, and
+backticks. Functions of src/, names that the kit makes (goals,
+places, fields of a step), strings, inputs and outputs are left. --names prints each old name with its new one, and
 changes nothing. A name that would fall together with another is in APART, with the word that it gets instead.
 """
 
@@ -75,7 +76,9 @@ def names(top):
         theirs |= brought_in(text)
         for line in text.splitlines():
             m = DEFINES.match(line.split("--")[0] if line.lstrip().startswith("--") else line)
-            if m:
+            if m and re.search(r":\s*(?:goal|need)\.", line):
+                theirs.add(m.group(1))
+            elif m:
                 ours.add(m.group(1))
     return {n: respelled(n) for n in sorted(ours - theirs) if respelled(n) != n}
 

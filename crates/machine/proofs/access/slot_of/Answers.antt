@@ -2,8 +2,8 @@ use Rattle.std.proofs.Common.{◌≡◌, ℕ, Option, sym, refl, ap, ◌∙◌}
 use Rattle.machine.specs.Accesses.{slot_of}
 use Rattle.machine.proofs.access.slot_of.Goals as goal
 
-pub returns_in_Some : goal.returns_in_Some
-returns_in_Some g c =
+pub returns-in-Some : goal.returns-in-Some
+returns-in-Some g c =
     record {
       way = ap (slot_of (g.P.Policy.choice c.args.policy.now c.args.hart)) c.in-Some.ensures.way;
       within = c.in-Some.ensures.within;

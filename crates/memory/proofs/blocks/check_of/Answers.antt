@@ -3,13 +3,13 @@ use lib.Bits.{bit_xor}
 use Rattle.memory.specs.Block.{word_at, byte_of, rotated, check_up_to}
 use Rattle.memory.proofs.blocks.check_of.Goals as goal
 
-pub loop_place_init : goal.loop_place_init
+pub loop-place-init : goal.loop-place-init
 unfolding check_up_to
-loop_place_init c = refl
+loop-place-init c = refl
 
-pub loop_place_preserved : goal.loop_place_preserved
+pub loop-place-preserved : goal.loop-place-preserved
 unfolding check_up_to
-loop_place_preserved c =
+loop-place-preserved c =
     let e : c.args.block * 512 + c.loop-place.place * 8 ≡ byte_of c.args.block c.loop-place.place = omega arith in
     let w : c.word.result ≡ word_at c.args.bytes.now (byte_of c.args.block c.loop-place.place) =
     c.word.ensures ∙ ap (λ (i : ℕ). word_at c.args.bytes.now i) e in

@@ -3,11 +3,11 @@ use Rattle.tables.specs.Tables.{cleared_to}
 use Rattle.tables.proofs.Clearing.{cleared_none, cleared_more}
 use Rattle.tables.proofs.words.clear_frame.Goals as goal
 
-pub loop_n_init : goal.loop_n_init
-loop_n_init g c = cleared_none (g.M.Memory.cells c.args.memory.now) c.args.frame
+pub loop-n-init : goal.loop-n-init
+loop-n-init g c = cleared_none (g.M.Memory.cells c.args.memory.now) c.args.frame
 
-pub loop_n_preserved : goal.loop_n_preserved
-loop_n_preserved g c =
+pub loop-n-preserved : goal.loop-n-preserved
+loop-n-preserved g c =
     c.put-word.ensures
     ∙ ap (λ (xs : List ℕ). set xs (512 * c.args.frame + c.loop-n.n) 0) c.loop-n.invariant
     ∙ cleared_more (g.M.Memory.cells c.args.memory.now) c.args.frame c.loop-n.n

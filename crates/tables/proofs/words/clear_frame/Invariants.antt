@@ -3,5 +3,5 @@ use Rattle.tables.specs.Tables.{cleared_to}
 use Rattle.tables.proofs.words.clear_frame.Given as goal
 
 -- the frame's doublewords so far are 0
-abbrev pub invariant_loop_n : goal.invariant_loop_n
-invariant_loop_n g l = g.M.Memory.cells l.memory ≡ cleared_to l.n (g.M.Memory.cells l.initial.memory) l.frame
+abbrev pub invariant-loop-n : goal.invariant-loop-n
+invariant-loop-n g l = g.M.Memory.cells l.memory ≡ cleared_to l.n (g.M.Memory.cells l.initial.memory) l.frame

@@ -3,5 +3,5 @@ use Rattle.tlb.specs.Slots.{empty_in}
 use Rattle.tlb.proofs.slots.lowest_empty.Given as goal
 
 -- what is left of the slots gives the slot that the whole gives
-abbrev pub invariant_loop_i : goal.invariant_loop_i
-invariant_loop_i g l = empty_in l.i (drop l.i l.slots) ≡ empty_in 0 l.slots
+abbrev pub invariant-loop-i : goal.invariant-loop-i
+invariant-loop-i g l = empty_in l.i (drop l.i l.slots) ≡ empty_in 0 l.slots

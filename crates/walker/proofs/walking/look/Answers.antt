@@ -6,8 +6,8 @@ use Rattle.walker.specs.Walk.{decided}
 use Rattle.walker.proofs.Steps.{look_inside, look_past}
 use Rattle.walker.proofs.walking.look.Goals as goal
 
-pub returns_in_err_word : goal.returns_in_err_word
-returns_in_err_word g c =
+pub returns-in-err-word : goal.returns-in-err-word
+returns-in-err-word g c =
     let p = err_from_is_err_and c.from-residual.result c.from-residual.ensures.1 in
     let r = past_from_read (g.M.Memory.cells c.args.memory.now) c.args.entry c.in-err-word.field-0.0 (sym c.in-err-word.ensures) in
     record {

@@ -7,8 +7,8 @@ use Rattle.walker.proofs.walking.walk.Given.{Over}
 use Rattle.walker.proofs.walking.walk.Goals as goal
 use Rattle.walker.proofs.walking.walk.Goals.{After-descend}
 
-pub returns_in_err_root : goal.returns_in_err_root
-returns_in_err_root g c =
+pub returns-in-err-root : goal.returns-in-err-root
+returns-in-err-root g c =
     record {
       value =
           let p = err_from_is_err_and c.from-residual.result c.from-residual.ensures.1 in
@@ -17,8 +17,8 @@ returns_in_err_root g c =
       within = IfOk-from_err c.from-residual.result _ c.from-residual.ensures.0;
     }
 
-pub returns_then_not_is_canonical : goal.returns_then_not_is_canonical
-returns_then_not_is_canonical g c =
+pub returns-then-not-is-canonical : goal.returns-then-not-is-canonical
+returns-then-not-is-canonical g c =
     record {
       value =
           ap (last_step (g.M.Memory.cells c.args.memory.now) c.args.access.now) (sym (found_not_canonical (g.M.Memory.cells c.args.memory.now) c.args.root c.args.access.now c.in-ok-root.ensures.1 (sym c.if-not-is-canonical.ensures)));
@@ -33,22 +33,22 @@ descended g c =
     ∙ ap (walk_from (g.M.Memory.cells c.args.memory.now) c.args.access.now 2) r.0
     ∙ sym (found_below (g.M.Memory.cells c.args.memory.now) c.args.root c.args.access.now r.1 (sym c.if-not-is-canonical.ensures))
 
-pub returns_in_err_entry : goal.returns_in_err_entry
-returns_in_err_entry g c =
+pub returns-in-err-entry : goal.returns-in-err-entry
+returns-in-err-entry g c =
     record {
       value =
           let p = err_from_is_err_and c.from-residual-in-err-entry.result c.from-residual-in-err-entry.ensures.1 in
           p.1 ∙ ap Err p.2
-          ∙ ap (last_step (g.M.Memory.cells c.args.memory.now) c.args.access.now) (sym c.in-err-entry.was ∙ descended g (goal.at.returns_in_err_entry g c).After-descend);
+          ∙ ap (last_step (g.M.Memory.cells c.args.memory.now) c.args.access.now) (sym c.in-err-entry.was ∙ descended g (goal.at.returns-in-err-entry g c).After-descend);
       within = IfOk-from_err c.from-residual-in-err-entry.result _ c.from-residual-in-err-entry.ensures.0;
     }
 
-pub returns_then_place_size : goal.returns_then_place_size
-returns_then_place_size g c =
+pub returns-then-place-size : goal.returns-then-place-size
+returns-then-place-size g c =
     record {
       value =
           sym (last_past (g.M.Memory.cells c.args.memory.now) c.args.access.now c.in-ok-entry.entry c.in-ok-entry.found (omega arith))
-          ∙ ap (last_step (g.M.Memory.cells c.args.memory.now) c.args.access.now) (sym c.in-ok-entry.was ∙ descended g (goal.at.returns_then_place_size g c).After-descend);
+          ∙ ap (last_step (g.M.Memory.cells c.args.memory.now) c.args.access.now) (sym c.in-ok-entry.was ∙ descended g (goal.at.returns-then-place-size g c).After-descend);
       within = tt;
     }
 

@@ -3,13 +3,13 @@ use Rattle.debts.specs.Debts.{unmarked_from}
 use Rattle.debts.proofs.Marks.{unmarked_here, unmarked_past, unmarked_none}
 use Rattle.debts.proofs.debt.Debt.lowest_unmarked.Goals as goal
 
-pub loop_hart_init : goal.loop_hart_init
-loop_hart_init c =
+pub loop-hart-init : goal.loop-hart-init
+loop-hart-init c =
     let all : c.args.harts - 0 ≡ c.args.harts = omega arith in
     ap (λ (n : ℕ). unmarked_from c.args.self.now.marks 0 n) all
 
-pub loop_hart_preserved : goal.loop_hart_preserved
-loop_hart_preserved c =
+pub loop-hart-preserved : goal.loop-hart-preserved
+loop-hart-preserved c =
     sym (unmarked_past c.args.self.now.marks c.loop-hart.hart c.args.harts c.loop-hart-test.true (sym c.if-not-is-marked.ensures))
     ∙ c.loop-hart.invariant
 
@@ -17,7 +17,7 @@ pub returns : goal.returns
 returns c =
     sym (unmarked_none c.args.self.now.marks c.loop-hart.hart c.args.harts c.loop-hart-test.false) ∙ c.loop-hart.invariant
 
-pub returns_then_not_is_marked : goal.returns_then_not_is_marked
-returns_then_not_is_marked c =
+pub returns-then-not-is-marked : goal.returns-then-not-is-marked
+returns-then-not-is-marked c =
     sym (unmarked_here c.args.self.now.marks c.loop-hart.hart c.args.harts c.loop-hart-test.true (sym c.if-not-is-marked.ensures))
     ∙ c.loop-hart.invariant

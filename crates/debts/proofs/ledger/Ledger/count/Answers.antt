@@ -5,8 +5,8 @@ use Rattle.debts.specs.declared.debt.Debt.{Debt}
 use Rattle.debts.proofs.ledger.Ledger.count.Goals as goal
 use Rattle.debts.proofs.ledger.Ledger.count.Goals.{then-is-some, else-is-some}
 
-pub loop_slot_preserved : goal.loop_slot_preserved
-loop_slot_preserved c =
+pub loop-slot-preserved : goal.loop-slot-preserved
+loop-slot-preserved c =
     let l = c.args.self.now in
     let i = c.loop-slot.slot-index in
     let full = l.full in

@@ -2,8 +2,8 @@ use Rattle.std.proofs.Common.{◌≡◌, set, ap, ◌∙◌, arith}
 use Rattle.debts.proofs.Ledgers.{marked_more, marked_all}
 use Rattle.debts.proofs.ledger.Ledger.fence.Goals as goal
 
-pub loop_i_preserved : goal.loop_i_preserved
-loop_i_preserved c =
+pub loop-i-preserved : goal.loop-i-preserved
+loop-i-preserved c =
     let l = c.args.self.now in
     let full = l.full in
     let m = c.loop-i.self in

@@ -3,8 +3,8 @@ use Rattle.debts.proofs.Ledgers.{open_here, open_past, open_past_empty, open_non
 use Rattle.debts.proofs.ledger.Ledger.find.Goals as goal
 use Rattle.debts.proofs.ledger.Ledger.find.Goals.{in-Some+else-debt-number, in-default}
 
-pub loop_i_preserved : goal.loop_i_preserved
-loop_i_preserved c =
+pub loop-i-preserved : goal.loop-i-preserved
+loop-i-preserved c =
     let l = c.args.self.now in
     let full = l.full in
     let inside : c.loop-i.i < length l.slots = omega arith in
@@ -19,8 +19,8 @@ returns c =
     let full = l.full in
     sym (open_none l.slots c.loop-i.i c.args.number (omega arith)) ∙ c.loop-i.invariant
 
-pub returns_then_debt_number : goal.returns_then_debt_number
-returns_then_debt_number c =
+pub returns-then-debt-number : goal.returns-then-debt-number
+returns-then-debt-number c =
     let l = c.args.self.now in
     let full = l.full in
     let inside : c.loop-i.i < length l.slots = omega arith in

@@ -6,8 +6,8 @@ use Rattle.frames.specs.Busy.{same}
 use Rattle.frames.proofs.pool.Pool.count.Goals as goal
 use Rattle.frames.proofs.pool.Pool.count.Goals.{then_is, else_is}
 
-pub loop_i_preserved : goal.loop_i_preserved
-loop_i_preserved c =
+pub loop-i-preserved : goal.loop-i-preserved
+loop-i-preserved c =
     let p = c.args.self.now in
     let i = c.loop-i.i in
     let in_state : FrameState → Bool = λ s. same s c.args.state in

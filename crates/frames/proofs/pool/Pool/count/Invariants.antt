@@ -3,5 +3,5 @@ use Rattle.frames.specs.Busy.{same}
 use Rattle.frames.proofs.pool.Pool.count.Given as goal
 
 -- the frames so far are counted
-abbrev pub invariant_loop_i : goal.invariant_loop_i
-invariant_loop_i l = (l.count ≡ count_by (λ s. same s l.state) (take l.i l.self.states)) × (l.count ≤ l.i)
+abbrev pub invariant-loop-i : goal.invariant-loop-i
+invariant-loop-i l = (l.count ≡ count_by (λ s. same s l.state) (take l.i l.self.states)) × (l.count ≤ l.i)

@@ -19,16 +19,16 @@ is_busy c =
     subst (λ (f : ℕ). one (get_or c.args.self.now.states f Free) ≡ 1) (sym (is_frame c).1)
     (busy_from_is_in (frames_of c.args.self.now) c.args.frame c.args.from c.requires (is_frame c).0)
 
-pub push_requires : goal.push_requires
-push_requires c =
+pub push-requires : goal.push-requires
+push-requires c =
     let p = c.args.self.now in
-    (room_left p.states p.pile.frames p.pile.height p.mark p.limit (sound p) c.in-Some.found (is_busy (goal.at.push_requires c).In-Some)).1
+    (room_left p.states p.pile.frames p.pile.height p.mark p.limit (sound p) c.in-Some.found (is_busy (goal.at.push-requires c).In-Some)).1
 
-pub invariant_of_self : goal.invariant_of_self
-invariant_of_self c =
+pub invariant-of-self : goal.invariant-of-self
+invariant-of-self c =
     let p = c.args.self.now in
     let f : ℕ = c.in-Some.found in
-    let r = released_sound p.states p.pile.frames p.pile.height p.mark p.limit (sound p) f (is_busy (goal.at.invariant_of_self c).In-Some) in
+    let r = released_sound p.states p.pile.frames p.pile.height p.mark p.limit (sound p) f (is_busy (goal.at.invariant-of-self c).In-Some) in
     subst (λ (xs : List ℕ). Sound (set p.states f Free) xs c.push.new.self.height p.mark p.limit) (sym c.push.ensures.frames)
     (subst (λ (n : ℕ). Sound (set p.states f Free) (set p.pile.frames p.pile.height f) n p.mark p.limit) (sym c.push.ensures.height) r)
 

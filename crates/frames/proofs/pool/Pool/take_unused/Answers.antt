@@ -3,16 +3,16 @@ use Rattle.frames.proofs.Soundness.{sound, unused_sound}
 use Rattle.frames.proofs.Takes.{unused_next, unused_taken, none_next, none_taken}
 use Rattle.frames.proofs.pool.Pool.take_unused.Goals as goal
 
-pub returns_then_self : goal.returns_then_self
-returns_then_self c =
+pub returns-then-self : goal.returns-then-self
+returns-then-self c =
     let p = c.args.self.now in
     record {
       frame = none_next p.states p.pile.frames p.pile.height p.mark p.limit c.args.to c.requires.1 c.if-self.true;
       after = none_taken p.states p.pile.frames p.pile.height p.mark p.limit c.args.to c.requires.1 c.if-self.true;
     }
 
-pub invariant_of_self : goal.invariant_of_self
-invariant_of_self c =
+pub invariant-of-self : goal.invariant-of-self
+invariant-of-self c =
     let p = c.args.self.now in
     unused_sound p.states p.pile.frames p.pile.height p.mark p.limit (sound p) c.args.to c.if-self.false c.requires.0
 

@@ -7,8 +7,8 @@ use Rattle.machine.specs.State.{state_of, row_of}
 use Rattle.machine.proofs.States.{did_at}
 use Rattle.machine.proofs.machine.Machine.fill.Goals as goal
 
-pub returns_in_err_found : goal.returns_in_err_found
-returns_in_err_found g c =
+pub returns-in-err-found : goal.returns-in-err-found
+returns-in-err-found g c =
     let m = c.args.self.now in
     let s = state_of g.M.Memory.cells g.P.Policy.last m in
     let q = c.args.access.now in

@@ -10,8 +10,8 @@ use Rattle.machine.proofs.Filling.{filled_after_tried}
 use Rattle.machine.proofs.States.{did_at}
 use Rattle.machine.proofs.machine.Machine.find.Goals as goal
 
-pub returns_in_None : goal.returns_in_None
-returns_in_None g c =
+pub returns-in-None : goal.returns-in-None
+returns-in-None g c =
     let m = c.args.self.now in
     let s = state_of g.M.Memory.cells g.P.Policy.last m in
     let q = c.args.access.now in

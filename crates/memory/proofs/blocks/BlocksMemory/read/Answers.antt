@@ -4,14 +4,14 @@ use Rattle.memory.proofs.Checks.{length_cells, cell_at}
 use Rattle.memory.proofs.Refusals.{read_inside}
 use Rattle.memory.proofs.blocks.BlocksMemory.read.Goals as goal
 
-pub overflow_mul_block : goal.overflow_mul_block
-overflow_mul_block c = omega (arith, length_cells c.args.self.now.bytes.now)
+pub overflow-mul-block : goal.overflow-mul-block
+overflow-mul-block c = omega (arith, length_cells c.args.self.now.bytes.now)
 
-pub overflow_add_block : goal.overflow_add_block
-overflow_add_block c = omega (arith, length_cells c.args.self.now.bytes.now)
+pub overflow-add-block : goal.overflow-add-block
+overflow-add-block c = omega (arith, length_cells c.args.self.now.bytes.now)
 
-pub word_requires : goal.word_requires
-word_requires c = omega (arith, length_cells c.args.self.now.bytes.now)
+pub word-requires : goal.word-requires
+word-requires c = omega (arith, length_cells c.args.self.now.bytes.now)
 
 pub returns : goal.returns
 returns c =

@@ -6,8 +6,8 @@ use Rattle.memory.proofs.Checks.{length_cells, done, length_done, cells_done, do
 use Rattle.memory.proofs.Refusals.{write_past, write_inside}
 use Rattle.memory.proofs.blocks.BlocksMemory.write.Goals as goal
 
-pub returns_then_n_size : goal.returns_then_n_size
-returns_then_n_size c =
+pub returns-then-n-size : goal.returns-then-n-size
+returns-then-n-size c =
     let b : List ℕ = c.args.self.now.bytes.now in
     let l = length_cells b in
     let past : length (cells_of b) ≤ c.args.n = omega arith in
@@ -20,8 +20,8 @@ returns_then_n_size c =
       lender = refl;
     }
 
-pub store_requires : goal.store_requires
-store_requires c = omega (arith, length_cells c.args.self.now.bytes.now)
+pub store-requires : goal.store-requires
+store-requires c = omega (arith, length_cells c.args.self.now.bytes.now)
 
 pub returns : goal.returns
 unfolding done

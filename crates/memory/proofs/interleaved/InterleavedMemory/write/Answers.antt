@@ -5,8 +5,8 @@ use Rattle.memory.proofs.Refusals.{write_past}
 use Rattle.memory.proofs.Sides.{write_even, list_even, first_even, second_even, write_odd, list_odd, first_odd, second_odd, first_past, second_past}
 use Rattle.memory.proofs.interleaved.InterleavedMemory.write.Goals as goal
 
-pub returns_then_n_size : goal.returns_then_n_size
-returns_then_n_size g c =
+pub returns-then-n-size : goal.returns-then-n-size
+returns-then-n-size g c =
     let xs : List ℕ = g.A.Memory.cells c.args.self.now.first in
     let ys : List ℕ = g.B.Memory.cells c.args.self.now.second in
     let n : ℕ = c.args.n in
@@ -19,8 +19,8 @@ returns_then_n_size g c =
       second = second_past xs ys n v past;
     }
 
-pub returns_then_n_eq0 : goal.returns_then_n_eq0
-returns_then_n_eq0 g c =
+pub returns-then-n-eq0 : goal.returns-then-n-eq0
+returns-then-n-eq0 g c =
     let xs : List ℕ = g.A.Memory.cells c.args.self.now.first in
     let ys : List ℕ = g.B.Memory.cells c.args.self.now.second in
     let n : ℕ = c.args.n in
@@ -34,8 +34,8 @@ returns_then_n_eq0 g c =
       second = second_even xs ys n inside e v;
     }
 
-pub returns_else_n_eq0 : goal.returns_else_n_eq0
-returns_else_n_eq0 g c =
+pub returns-else-n-eq0 : goal.returns-else-n-eq0
+returns-else-n-eq0 g c =
     let xs : List ℕ = g.A.Memory.cells c.args.self.now.first in
     let ys : List ℕ = g.B.Memory.cells c.args.self.now.second in
     let n : ℕ = c.args.n in

@@ -3,20 +3,20 @@ use Rattle.policy.specs.Dial.{Swept, beyond, sweep, swept}
 use Rattle.policy.specs.Dials.{look_last, look_marked, look_free, looks_left, no_look_left}
 use Rattle.policy.proofs.dial.Dial.sweep.Goals as goal
 
-pub loop_look_init : goal.loop_look_init
+pub loop-look-init : goal.loop-look-init
 unfolding swept
-loop_look_init c = (refl, refl)
+loop-look-init c = (refl, refl)
 
-pub loop_look_preserved_then_is_last : goal.loop_look_preserved_then_is_last
-loop_look_preserved_then_is_last c =
+pub loop-look-preserved-then-is-last : goal.loop-look-preserved-then-is-last
+loop-look-preserved-then-is-last c =
     let s = c.loop-look.self in (
       sym (look_last (18 - (c.loop-look.-look + 1)) s.marks s.hand s.last (sym c.if-is-last.ensures))
           ∙ looks_left c.loop-look.-look s.marks s.hand s.last c.loop-look-test.true ∙ c.loop-look.invariant.0,
       c.loop-look.invariant.1,
     )
 
-pub returns_then_not_self_way : goal.returns_then_not_self_way
-returns_then_not_self_way c =
+pub returns-then-not-self-way : goal.returns-then-not-self-way
+returns-then-not-self-way c =
     let s = c.loop-look.self in
     let e : ◌≡◌ {A = Swept} (record { way = s.hand; marks = s.marks; hand = beyond s.hand }) (swept c.args.self.now.marks c.args.self.now.hand c.args.self.now.last) =
     sym (look_free (18 - (c.loop-look.-look + 1)) s.marks s.hand s.last (sym c.if-is-last.ensures) c.if-not-self-way.true)
@@ -28,8 +28,8 @@ returns_then_not_self_way c =
       last = c.loop-look.invariant.1;
     }
 
-pub loop_look_preserved : goal.loop_look_preserved
-loop_look_preserved c =
+pub loop-look-preserved : goal.loop-look-preserved
+loop-look-preserved c =
     let s = c.loop-look.self in (
       sym (look_marked (18 - (c.loop-look.-look + 1)) s.marks s.hand s.last (sym c.if-is-last.ensures) c.if-not-self-way.false)
           ∙ looks_left c.loop-look.-look s.marks s.hand s.last c.loop-look-test.true ∙ c.loop-look.invariant.0,

@@ -5,8 +5,8 @@ use Rattle.tlb.proofs.Scans.{step_covered, step_other, fenced_all, emptied_all}
 use Rattle.tlb.proofs.row.Row.fence.Goals as goal
 use Rattle.tlb.proofs.row.Row.fence.Goals.{then-is-covered, else-is-covered}
 
-pub loop_i_preserved : goal.loop_i_preserved
-loop_i_preserved c =
+pub loop-i-preserved : goal.loop-i-preserved
+loop-i-preserved c =
     let r = c.args.self.now in
     let s = c.loop-i.self in
     let full = r.full in

@@ -3,8 +3,8 @@ use Rattle.tlb.proofs.Scans.{found_here, found_past, found_past_empty, found_non
 use Rattle.tlb.proofs.row.Row.find.Goals as goal
 use Rattle.tlb.proofs.row.Row.find.Goals.{in-Some+else-is-for, in-default}
 
-pub loop_i_preserved : goal.loop_i_preserved
-loop_i_preserved c =
+pub loop-i-preserved : goal.loop-i-preserved
+loop-i-preserved c =
     let r = c.args.self.now in
     let full = r.full in
     let inside : c.loop-i.i < length r.ways = omega arith in
@@ -19,8 +19,8 @@ returns c =
     let full = r.full in
     sym (found_none r.ways c.loop-i.i c.args.space c.args.page (omega arith)) ∙ c.loop-i.invariant
 
-pub returns_then_is_for : goal.returns_then_is_for
-returns_then_is_for c =
+pub returns-then-is-for : goal.returns-then-is-for
+returns-then-is-for c =
     let r = c.args.self.now in
     let full = r.full in
     let inside : c.loop-i.i < length r.ways = omega arith in

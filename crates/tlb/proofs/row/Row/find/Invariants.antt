@@ -3,5 +3,5 @@ use Rattle.tlb.specs.Rows.{found}
 use Rattle.tlb.proofs.row.Row.find.Given as goal
 
 -- what is left of the row gives the way that the whole gives
-abbrev pub invariant_loop_i : goal.invariant_loop_i
-invariant_loop_i l = found l.space l.page l.i (drop l.i l.self.ways) ≡ found l.space l.page 0 l.self.ways
+abbrev pub invariant-loop-i : goal.invariant-loop-i
+invariant-loop-i l = found l.space l.page l.i (drop l.i l.self.ways) ≡ found l.space l.page 0 l.self.ways

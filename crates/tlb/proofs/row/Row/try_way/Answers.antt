@@ -21,37 +21,37 @@ holds c =
     let l = found_within c.args.space c.args.page 0 r.ways c.in-ok-way.way (sym c.in-ok-way.ensures) in
     get_or_default c.args.self.now.ways c.in-ok-way.way None c.index-self-way.result (omega arith) ∙ c.in-ok-held.was
 
-pub offset_bounds_self_way : goal.offset_bounds_self_way
-offset_bounds_self_way c = let h = inside (goal.at.offset_bounds_self_way c).In-ok-way in omega arith
+pub offset-bounds-self-way : goal.offset-bounds-self-way
+offset-bounds-self-way c = let h = inside (goal.at.offset-bounds-self-way c).In-ok-way in omega arith
 
 pub listed : goal.listed
 listed c = let h = inside (goal.at.listed c).In-ok-way in let full = c.args.self.now.full in omega arith
 
-pub bounds_self_way : goal.bounds_self_way
-bounds_self_way c = let h = inside (goal.at.bounds_self_way c).In-ok-way in omega arith
+pub bounds-self-way : goal.bounds-self-way
+bounds-self-way c = let h = inside (goal.at.bounds-self-way c).In-ok-way in omega arith
 
-pub returns_then_serves : goal.returns_then_serves
-returns_then_serves c =
+pub returns-then-serves : goal.returns-then-serves
+returns-then-serves c =
     let r = c.args.self.now in
     let q = c.args.access.now in
     let way = c.in-ok-held.held in
     let at = sym c.in-ok-way.ensures in
-    let held = holds (goal.at.returns_then_serves c).In-ok-held in
+    let held = holds (goal.at.returns-then-serves c).In-ok-held in
     let e = sym c.if-serves.ensures in
     record {
       answer = sym (served_hit c.args.space c.args.page q r.ways c.in-ok-way.way way at held e);
       ways = sym (tried_hit c.args.space c.args.page q r.ways c.in-ok-way.way way at held e);
-      within = (inside (goal.at.returns_then_serves c).In-ok-way, way.narrow);
+      within = (inside (goal.at.returns-then-serves c).In-ok-way, way.narrow);
     }
 
-pub offset_bounds_self_way_2 : goal.offset_bounds_self_way_2
-offset_bounds_self_way_2 c = let h = inside (goal.at.offset_bounds_self_way_2 c).In-ok-way in omega arith
+pub offset-bounds-self-way-2 : goal.offset-bounds-self-way-2
+offset-bounds-self-way-2 c = let h = inside (goal.at.offset-bounds-self-way-2 c).In-ok-way in omega arith
 
-pub listed_2 : goal.listed_2
-listed_2 c = let h = inside (goal.at.listed_2 c).In-ok-way in let full = c.args.self.now.full in omega arith
+pub listed-2 : goal.listed-2
+listed-2 c = let h = inside (goal.at.listed-2 c).In-ok-way in let full = c.args.self.now.full in omega arith
 
-pub bounds_self_way_2 : goal.bounds_self_way_2
-bounds_self_way_2 c = let h = inside (goal.at.bounds_self_way_2 c).In-ok-way in omega arith
+pub bounds-self-way-2 : goal.bounds-self-way-2
+bounds-self-way-2 c = let h = inside (goal.at.bounds-self-way-2 c).In-ok-way in omega arith
 
 pub returns : goal.returns
 returns c =
