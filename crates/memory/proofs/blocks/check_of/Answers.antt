@@ -13,7 +13,7 @@ loop-place-preserved c =
     let e : c.args.block * 512 + c.loop-place.place * 8 ≡ byte_of c.args.block c.loop-place.place = omega arith in
     let w : c.word.result ≡ word_at c.args.bytes.now (byte_of c.args.block c.loop-place.place) =
     c.word.ensures ∙ ap (λ (i : ℕ). word_at c.args.bytes.now i) e in
-    let r : c.rotate-left.result ≡ rotated (check_up_to c.args.bytes.now c.args.block c.loop-place.place) =
-    c.rotate-left.ensures ∙ ap rotated c.loop-place.invariant in
-    let b : bit_xor c.rotate-left.result c.word.result ≡ bit_xor (rotated (check_up_to c.args.bytes.now c.args.block c.loop-place.place)) (word_at c.args.bytes.now (byte_of c.args.block c.loop-place.place)) = cc in
+    let r : c.rotate_left.result ≡ rotated (check_up_to c.args.bytes.now c.args.block c.loop-place.place) =
+    c.rotate_left.ensures ∙ ap rotated c.loop-place.invariant in
+    let b : bit_xor c.rotate_left.result c.word.result ≡ bit_xor (rotated (check_up_to c.args.bytes.now c.args.block c.loop-place.place)) (word_at c.args.bytes.now (byte_of c.args.block c.loop-place.place)) = cc in
     rw add-one b

@@ -9,6 +9,6 @@ unfolding bytes_of
 returns c =
     let v : ℕ = c.args.value in
     let d = div-one v in
-    let e : c.copy-from-slice.new.self ≡ bytes_of v = cc in
+    let e : c.copy_from_slice.new.self ≡ bytes_of v = cc in
     ap (λ (t : List ℕ). put_mid c.args.at (c.args.at + 8 - c.args.at) c.args.bytes.now t) e
     ∙ put_from_mid c.args.at c.args.bytes.now (bytes_of v) (omega arith)

@@ -11,10 +11,10 @@ returns c =
     let v : ℕ = c.args.value in
     let at : c.locate-block.result.0 * 512 + c.locate-block.result.1 * 8 ≡ start_of n = omega arith in
     let last : c.locate-block.result.0 * 512 + 504 ≡ byte_of (n / 63) 63 = omega arith in
-    let m : c.put-word.new.bytes ≡ put b (start_of n) (bytes_of v) = cc in
-    let k : c.check-of-check.result ≡ check_for (put b (start_of n) (bytes_of v)) (n / 63) = cc in
-    let after : c.put-word-2.new.bytes ≡ stored b n v = cc in
-    let small : check_for (put b (start_of n) (bytes_of v)) (n / 63) < 2 ^ 64 = subst (λ (i : ℕ). i < 2 ^ 64) k c.check-of-check.type-inv in
+    let m : c.put_word.new.bytes ≡ put b (start_of n) (bytes_of v) = cc in
+    let k : c.check_of-check.result ≡ check_for (put b (start_of n) (bytes_of v)) (n / 63) = cc in
+    let after : c.put_word-2.new.bytes ≡ stored b n v = cc in
+    let small : check_for (put b (start_of n) (bytes_of v)) (n / 63) < 2 ^ 64 = subst (λ (i : ℕ). i < 2 ^ 64) k c.check_of-check.type_inv in
     record {
       after = after;
       sound = λ a t. subst (λ (bs : List ℕ). sound bs a ≡ true) (sym after) (sound_done b n v c.requires small a t);

@@ -8,7 +8,7 @@ loop-n-init g c = cleared_none (g.M.Memory.cells c.args.memory.now) c.args.frame
 
 pub loop-n-preserved : goal.loop-n-preserved
 loop-n-preserved g c =
-    c.put-word.ensures
+    c.put_word.ensures
     ∙ ap (λ (xs : List ℕ). set xs (512 * c.args.frame + c.loop-n.n) 0) c.loop-n.invariant
     ∙ cleared_more (g.M.Memory.cells c.args.memory.now) c.args.frame c.loop-n.n
 

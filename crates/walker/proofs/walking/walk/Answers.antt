@@ -7,48 +7,48 @@ use Rattle.walker.proofs.walking.walk.Given.{Over}
 use Rattle.walker.proofs.walking.walk.Goals as goal
 use Rattle.walker.proofs.walking.walk.Goals.{After-descend}
 
-pub returns-in-err-root : goal.returns-in-err-root
-returns-in-err-root g c =
+pub returns-in_err-root : goal.returns-in_err-root
+returns-in_err-root g c =
     record {
       value =
-          let p = err_from_is_err_and c.from-residual.result c.from-residual.ensures.1 in
+          let p = err_from_is_err_and c.from_residual.result c.from_residual.ensures.1 in
           p.1 ∙ ap Err p.2
-          ∙ ap (last_step (g.M.Memory.cells c.args.memory.now) c.args.access.now) (sym (found_wide (g.M.Memory.cells c.args.memory.now) c.args.root c.args.access.now c.in-err-root.ensures));
-      within = IfOk-from_err c.from-residual.result _ c.from-residual.ensures.0;
+          ∙ ap (last_step (g.M.Memory.cells c.args.memory.now) c.args.access.now) (sym (found_wide (g.M.Memory.cells c.args.memory.now) c.args.root c.args.access.now c.in_err-root.ensures));
+      within = IfOk-from_err c.from_residual.result _ c.from_residual.ensures.0;
     }
 
-pub returns-then-not-is-canonical : goal.returns-then-not-is-canonical
-returns-then-not-is-canonical g c =
+pub returns-then-not-is_canonical : goal.returns-then-not-is_canonical
+returns-then-not-is_canonical g c =
     record {
       value =
-          ap (last_step (g.M.Memory.cells c.args.memory.now) c.args.access.now) (sym (found_not_canonical (g.M.Memory.cells c.args.memory.now) c.args.root c.args.access.now c.in-ok-root.ensures.1 (sym c.if-not-is-canonical.ensures)));
+          ap (last_step (g.M.Memory.cells c.args.memory.now) c.args.access.now) (sym (found_not_canonical (g.M.Memory.cells c.args.memory.now) c.args.root c.args.access.now c.in_ok-root.ensures.1 (sym c.if-not-is_canonical.ensures)));
       within = tt;
     }
 
 -- what `descend` came to is what is found
 descended : (g : Over) (c : After-descend g) → c.descend.result ≡ found (g.M.Memory.cells c.args.memory.now) c.args.root c.args.access.now
 descended g c =
-    let r = c.in-ok-root.ensures in
+    let r = c.in_ok-root.ensures in
     c.descend.ensures.value
     ∙ ap (walk_from (g.M.Memory.cells c.args.memory.now) c.args.access.now 2) r.0
-    ∙ sym (found_below (g.M.Memory.cells c.args.memory.now) c.args.root c.args.access.now r.1 (sym c.if-not-is-canonical.ensures))
+    ∙ sym (found_below (g.M.Memory.cells c.args.memory.now) c.args.root c.args.access.now r.1 (sym c.if-not-is_canonical.ensures))
 
-pub returns-in-err-entry : goal.returns-in-err-entry
-returns-in-err-entry g c =
+pub returns-in_err-entry : goal.returns-in_err-entry
+returns-in_err-entry g c =
     record {
       value =
-          let p = err_from_is_err_and c.from-residual-in-err-entry.result c.from-residual-in-err-entry.ensures.1 in
+          let p = err_from_is_err_and c.from_residual-in_err-entry.result c.from_residual-in_err-entry.ensures.1 in
           p.1 ∙ ap Err p.2
-          ∙ ap (last_step (g.M.Memory.cells c.args.memory.now) c.args.access.now) (sym c.in-err-entry.was ∙ descended g (goal.at.returns-in-err-entry g c).After-descend);
-      within = IfOk-from_err c.from-residual-in-err-entry.result _ c.from-residual-in-err-entry.ensures.0;
+          ∙ ap (last_step (g.M.Memory.cells c.args.memory.now) c.args.access.now) (sym c.in_err-entry.was ∙ descended g (goal.at.returns-in_err-entry g c).After-descend);
+      within = IfOk-from_err c.from_residual-in_err-entry.result _ c.from_residual-in_err-entry.ensures.0;
     }
 
 pub returns-then-place-size : goal.returns-then-place-size
 returns-then-place-size g c =
     record {
       value =
-          sym (last_past (g.M.Memory.cells c.args.memory.now) c.args.access.now c.in-ok-entry.entry c.in-ok-entry.found (omega arith))
-          ∙ ap (last_step (g.M.Memory.cells c.args.memory.now) c.args.access.now) (sym c.in-ok-entry.was ∙ descended g (goal.at.returns-then-place-size g c).After-descend);
+          sym (last_past (g.M.Memory.cells c.args.memory.now) c.args.access.now c.in_ok-entry.entry c.in_ok-entry.found (omega arith))
+          ∙ ap (last_step (g.M.Memory.cells c.args.memory.now) c.args.access.now) (sym c.in_ok-entry.was ∙ descended g (goal.at.returns-then-place-size g c).After-descend);
       within = tt;
     }
 
@@ -56,7 +56,7 @@ pub returns : goal.returns
 returns g c =
     record {
       value =
-          sym (last_inside (g.M.Memory.cells c.args.memory.now) c.args.access.now c.in-ok-entry.entry c.in-ok-entry.found (omega arith))
-          ∙ ap (last_step (g.M.Memory.cells c.args.memory.now) c.args.access.now) (sym c.in-ok-entry.was ∙ descended g (goal.at.returns g c).After-descend);
-      within = c.in-ok-entry.ensures.within;
+          sym (last_inside (g.M.Memory.cells c.args.memory.now) c.args.access.now c.in_ok-entry.entry c.in_ok-entry.found (omega arith))
+          ∙ ap (last_step (g.M.Memory.cells c.args.memory.now) c.args.access.now) (sym c.in_ok-entry.was ∙ descended g (goal.at.returns g c).After-descend);
+      within = c.in_ok-entry.ensures.within;
     }

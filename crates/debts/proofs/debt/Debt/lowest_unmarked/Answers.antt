@@ -10,14 +10,14 @@ loop-hart-init c =
 
 pub loop-hart-preserved : goal.loop-hart-preserved
 loop-hart-preserved c =
-    sym (unmarked_past c.args.self.now.marks c.loop-hart.hart c.args.harts c.loop-hart-test.true (sym c.if-not-is-marked.ensures))
+    sym (unmarked_past c.args.self.now.marks c.loop-hart.hart c.args.harts c.loop-hart-test.true (sym c.if-not-is_marked.ensures))
     ∙ c.loop-hart.invariant
 
 pub returns : goal.returns
 returns c =
     sym (unmarked_none c.args.self.now.marks c.loop-hart.hart c.args.harts c.loop-hart-test.false) ∙ c.loop-hart.invariant
 
-pub returns-then-not-is-marked : goal.returns-then-not-is-marked
-returns-then-not-is-marked c =
-    sym (unmarked_here c.args.self.now.marks c.loop-hart.hart c.args.harts c.loop-hart-test.true (sym c.if-not-is-marked.ensures))
+pub returns-then-not-is_marked : goal.returns-then-not-is_marked
+returns-then-not-is_marked c =
+    sym (unmarked_here c.args.self.now.marks c.loop-hart.hart c.args.harts c.loop-hart-test.true (sym c.if-not-is_marked.ensures))
     ∙ c.loop-hart.invariant

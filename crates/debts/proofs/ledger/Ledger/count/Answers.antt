@@ -3,7 +3,7 @@ use Rattle.std.proofs.lemmas.List.{take_all}
 use Rattle.std.proofs.lemmas.List.Sums.{count_by_more_yes, count_by_more_no}
 use Rattle.debts.specs.declared.debt.Debt.{Debt}
 use Rattle.debts.proofs.ledger.Ledger.count.Goals as goal
-use Rattle.debts.proofs.ledger.Ledger.count.Goals.{then-is-some, else-is-some}
+use Rattle.debts.proofs.ledger.Ledger.count.Goals.{then-is_some, else-is_some}
 
 pub loop-slot-preserved : goal.loop-slot-preserved
 loop-slot-preserved c =
@@ -12,13 +12,13 @@ loop-slot-preserved c =
     let full = l.full in
     let inside : i < length l.slots = omega arith in
     let inv = c.loop-slot.invariant in
-    elim c.if-is-some.branch [
-      | then-is-some w ↦
-          let more = count_by_more_yes (is_some {T = Debt}) l.slots i None inside (sym c.is-some.ensures ∙ w.if-is-some.true) in
+    elim c.if-is_some.branch [
+      | then-is_some w ↦
+          let more = count_by_more_yes (is_some {T = Debt}) l.slots i None inside (sym c.is_some.ensures ∙ w.if-is_some.true) in
           let n = w.count-is in
           (w.count-is ∙ ap (λ (k : ℕ). k + 1) inv.0 ∙ sym more, omega arith)
-      | else-is-some w ↦
-          let more = count_by_more_no (is_some {T = Debt}) l.slots i None inside (sym c.is-some.ensures ∙ w.if-is-some.false) in
+      | else-is_some w ↦
+          let more = count_by_more_no (is_some {T = Debt}) l.slots i None inside (sym c.is_some.ensures ∙ w.if-is_some.false) in
           let n = w.count-is in
           (w.count-is ∙ inv.0 ∙ sym more, omega arith)
     ]

@@ -8,7 +8,7 @@ loop-i-preserved c =
     let full = l.full in
     let m = c.loop-i.self in
     let here = m.full in (
-      ap (set m.slots c.loop-i.i) c.fenced-slot.ensures
+      ap (set m.slots c.loop-i.i) c.fenced_slot.ensures
           ∙ marked_more c.args.hart c.args.space c.args.page l.slots m.slots c.loop-i.i (omega arith) (omega arith) c.loop-i.invariant.0,
       c.loop-i.invariant.1,
     )

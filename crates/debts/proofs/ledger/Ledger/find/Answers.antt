@@ -1,7 +1,7 @@
 use Rattle.std.proofs.Common.{◌≡◌, ◌<◌, length, sym, ◌∙◌, arith}
 use Rattle.debts.proofs.Ledgers.{open_here, open_past, open_past_empty, open_none}
 use Rattle.debts.proofs.ledger.Ledger.find.Goals as goal
-use Rattle.debts.proofs.ledger.Ledger.find.Goals.{in-Some+else-debt-number, in-default}
+use Rattle.debts.proofs.ledger.Ledger.find.Goals.{in-Some+else-debt-number, in_default}
 
 pub loop-i-preserved : goal.loop-i-preserved
 loop-i-preserved c =
@@ -10,7 +10,7 @@ loop-i-preserved c =
     let inside : c.loop-i.i < length l.slots = omega arith in
     elim c.match-slot.branch [
       | in-Some+else-debt-number w ↦ sym (open_past l.slots c.loop-i.i c.args.number w.in-Some.debt inside w.in-Some.is w.if-debt-number.false) ∙ c.loop-i.invariant
-      | in-default w ↦ sym (open_past_empty l.slots c.loop-i.i c.args.number inside w.in-default.is) ∙ c.loop-i.invariant
+      | in_default w ↦ sym (open_past_empty l.slots c.loop-i.i c.args.number inside w.in_default.is) ∙ c.loop-i.invariant
     ]
 
 pub returns : goal.returns

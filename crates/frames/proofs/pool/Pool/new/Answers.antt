@@ -6,8 +6,8 @@ use Rattle.frames.proofs.Stacks.{stack_none}
 use Rattle.frames.proofs.Takes.{pool}
 use Rattle.frames.proofs.pool.Pool.new.Goals as goal
 
-pub invariant-of-result : goal.invariant-of-result
-invariant-of-result c = (
+pub invariant_of-result : goal.invariant_of-result
+invariant_of-result c = (
   (refl, ap length c.empty.ensures.frames),
   (
     (omega arith, omega arith),

@@ -24,11 +24,11 @@ push-requires c =
     let p = c.args.self.now in
     (room_left p.states p.pile.frames p.pile.height p.mark p.limit (sound p) c.in-Some.found (is_busy (goal.at.push-requires c).In-Some)).1
 
-pub invariant-of-self : goal.invariant-of-self
-invariant-of-self c =
+pub invariant_of-self : goal.invariant_of-self
+invariant_of-self c =
     let p = c.args.self.now in
     let f : ℕ = c.in-Some.found in
-    let r = released_sound p.states p.pile.frames p.pile.height p.mark p.limit (sound p) f (is_busy (goal.at.invariant-of-self c).In-Some) in
+    let r = released_sound p.states p.pile.frames p.pile.height p.mark p.limit (sound p) f (is_busy (goal.at.invariant_of-self c).In-Some) in
     subst (λ (xs : List ℕ). Sound (set p.states f Free) xs c.push.new.self.height p.mark p.limit) (sym c.push.ensures.frames)
     (subst (λ (n : ℕ). Sound (set p.states f Free) (set p.pile.frames p.pile.height f) n p.mark p.limit) (sym c.push.ensures.height) r)
 

@@ -3,8 +3,8 @@ use Rattle.frames.proofs.Soundness.{sound}
 use Rattle.frames.proofs.Takes.{top_next, top_taken, top_sound}
 use Rattle.frames.proofs.pool.Pool.take.Goals as goal
 
-pub invariant-of-self-2 : goal.invariant-of-self-2
-invariant-of-self-2 c =
+pub invariant_of-self-2 : goal.invariant_of-self-2
+invariant_of-self-2 c =
     let p = c.args.self.now in
     top_sound p.states p.pile.frames p.pile.height p.mark p.limit c.args.to c.in-Some.frame c.pop.new.self.height c.pop.new.self.frames (sym c.in-Some.ensures.top) c.pop.ensures.height c.pop.ensures.frames (sound p) c.requires
 

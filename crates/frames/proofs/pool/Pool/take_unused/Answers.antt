@@ -11,8 +11,8 @@ returns-then-self c =
       after = none_taken p.states p.pile.frames p.pile.height p.mark p.limit c.args.to c.requires.1 c.if-self.true;
     }
 
-pub invariant-of-self : goal.invariant-of-self
-invariant-of-self c =
+pub invariant_of-self : goal.invariant_of-self
+invariant_of-self c =
     let p = c.args.self.now in
     unused_sound p.states p.pile.frames p.pile.height p.mark p.limit (sound p) c.args.to c.if-self.false c.requires.0
 

@@ -6,8 +6,8 @@ use Rattle.frames.proofs.Finding.{found_some, busy_from_is_in}
 use Rattle.frames.proofs.Soundness.{sound, changed_sound}
 use Rattle.frames.proofs.pool.Pool.turn.Goals as goal
 
-pub invariant-of-self : goal.invariant-of-self
-invariant-of-self c =
+pub invariant_of-self : goal.invariant_of-self
+invariant_of-self c =
     let p = c.args.self.now in
     let e = found_some _ c.args.frame c.in-Some.found (sym c.in-Some.ensures) in
     changed_sound _ _ _ _ _ (sound p) c.in-Some.found c.args.to

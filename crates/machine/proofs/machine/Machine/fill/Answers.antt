@@ -7,17 +7,17 @@ use Rattle.machine.specs.State.{state_of, row_of}
 use Rattle.machine.proofs.States.{did_at}
 use Rattle.machine.proofs.machine.Machine.fill.Goals as goal
 
-pub returns-in-err-found : goal.returns-in-err-found
-returns-in-err-found g c =
+pub returns-in_err-found : goal.returns-in_err-found
+returns-in_err-found g c =
     let m = c.args.self.now in
     let s = state_of g.M.Memory.cells g.P.Policy.last m in
     let q = c.args.access.now in
     let hart = c.args.hart in
-    let p = err_from_is_err_and c.from-residual.result c.from-residual.ensures.1 in
+    let p = err_from_is_err_and c.from_residual.result c.from_residual.ensures.1 in
     record {
       step =
           did_at (filled_by s (g.P.Policy.choice m.policy hart) hart c.args.space q (row_of s hart))
-          (c.in-err-found.ensures.value ∙ ap (λ (n : ℕ). walked s.cells n q) c.walk-root-root.ensures)
+          (c.in_err-found.ensures.value ∙ ap (λ (n : ℕ). walked s.cells n q) c.walk_root-root.ensures)
           (record {
             answer = p.1 ∙ ap Err p.2;
             memory = refl;
@@ -29,5 +29,5 @@ returns-in-err-found g c =
             count = refl;
             last = refl;
           });
-      within = IfOk-from_err c.from-residual.result _ c.from-residual.ensures.0;
+      within = IfOk-from_err c.from_residual.result _ c.from_residual.ensures.0;
     }

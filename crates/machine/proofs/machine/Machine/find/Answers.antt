@@ -19,10 +19,10 @@ returns-in-None g c =
     let space = c.args.space in
     let choice = g.P.Policy.choice m.policy hart in
     let row = tried space (page q.address) q (row_of s hart) in
-    let each = c.try-way.ensures.each in
+    let each = c.try_way.ensures.each in
     let h : hart < length s.rows = omega (arith, each) in
     let at_page = c.page_of_page.ensures in
-    let rows_are = c.try-way.ensures.rows ∙ ap (λ (p : ℕ). set s.rows hart (tried space p q (row_of s hart))) at_page in
+    let rows_are = c.try_way.ensures.rows ∙ ap (λ (p : ℕ). set s.rows hart (tried space p q (row_of s hart))) at_page in
     let told = c.in-None.ensures.answer ∙ ap (λ (p : ℕ). served space p q (row_of s hart)) at_page in
     let after-trying =
     ap (λ (rows : List (List (Option Way))). record { cells = s.cells; frames = s.frames; roots = s.roots; debts = s.debts; harts = s.harts; rows = rows; count = s.count; last = s.last }) rows_are in

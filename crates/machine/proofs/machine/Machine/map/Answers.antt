@@ -12,21 +12,21 @@ pub returns : goal.returns
 returns g c =
     let s = state_of g.M.Memory.cells g.P.Policy.last c.args.self.now in
     let a = c.args.address in
-    let mid = grown_mid s.cells s.frames c.in-ok-root.root a in
+    let mid = grown_mid s.cells s.frames c.in_ok-root.root a in
     let one = c.grow-mid.ensures in
     let two = c.grow-low.ensures in
     let low = low_from_parts mid a (g.M.Memory.cells c.grow-mid.new.memory) (frames_of c.grow-mid.new.pool) c.grow-mid.result.table one.memory one.pool one.table in
-    did_at (map_by s a c.args.rights) c.in-ok-root.ensures
+    did_at (map_by s a c.args.rights) c.in_ok-root.ensures
     (record {
       answer =
           ap Ok
           (ap (λ (n : ℕ). n + c.grow-low.result.count) one.count ∙ ap (λ (n : ℕ). mid.count + n) (two.count ∙ ap (λ (b : Growth). b.count) low));
       memory =
-          c.put-leaf.ensures
-          ∙ leaf_put_same a c.in-ok-root.held c.args.rights (two.memory ∙ ap (λ (b : Growth). b.cells) low) (two.table ∙ ap (λ (b : Growth). b.table) low);
+          c.put_leaf.ensures
+          ∙ leaf_put_same a c.in_ok-root.held c.args.rights (two.memory ∙ ap (λ (b : Growth). b.cells) low) (two.table ∙ ap (λ (b : Growth). b.table) low);
       pool =
           c.turn.ensures.after
-          ∙ ap (λ (v : Frames). turned v c.in-ok-root.held state.Held state.Mapped) (two.pool ∙ ap (λ (b : Growth). b.frames) low);
+          ∙ ap (λ (v : Frames). turned v c.in_ok-root.held state.Held state.Mapped) (two.pool ∙ ap (λ (b : Growth). b.frames) low);
       roots = refl;
       debts = refl;
       harts = refl;

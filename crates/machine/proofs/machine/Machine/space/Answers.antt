@@ -12,8 +12,8 @@ inside g c =
     let l = empty_below core.roots 0 c.in-Some.number (sym c.in-Some.ensures) in
     omega arith
 
-pub offset-bounds-self-number : goal.offset-bounds-self-number
-offset-bounds-self-number g c = let h = inside g (goal.at.offset-bounds-self-number g c).In-Some in omega arith
+pub offset_bounds-self-number : goal.offset_bounds-self-number
+offset_bounds-self-number g c = let h = inside g (goal.at.offset_bounds-self-number g c).In-Some in omega arith
 
 pub bounds-self-number : goal.bounds-self-number
 bounds-self-number g c = let h = inside g (goal.at.bounds-self-number g c).In-Some in omega arith

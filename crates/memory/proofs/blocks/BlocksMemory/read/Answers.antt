@@ -4,11 +4,11 @@ use Rattle.memory.proofs.Checks.{length_cells, cell_at}
 use Rattle.memory.proofs.Refusals.{read_inside}
 use Rattle.memory.proofs.blocks.BlocksMemory.read.Goals as goal
 
-pub overflow-mul-block : goal.overflow-mul-block
-overflow-mul-block c = omega (arith, length_cells c.args.self.now.bytes.now)
+pub overflow_mul-block : goal.overflow_mul-block
+overflow_mul-block c = omega (arith, length_cells c.args.self.now.bytes.now)
 
-pub overflow-add-block : goal.overflow-add-block
-overflow-add-block c = omega (arith, length_cells c.args.self.now.bytes.now)
+pub overflow_add-block : goal.overflow_add-block
+overflow_add-block c = omega (arith, length_cells c.args.self.now.bytes.now)
 
 pub word-requires : goal.word-requires
 word-requires c = omega (arith, length_cells c.args.self.now.bytes.now)

@@ -7,11 +7,11 @@ pub loop-look-init : goal.loop-look-init
 unfolding swept
 loop-look-init c = (refl, refl)
 
-pub loop-look-preserved-then-is-last : goal.loop-look-preserved-then-is-last
-loop-look-preserved-then-is-last c =
+pub loop-look-preserved-then-is_last : goal.loop-look-preserved-then-is_last
+loop-look-preserved-then-is_last c =
     let s = c.loop-look.self in (
-      sym (look_last (18 - (c.loop-look.-look + 1)) s.marks s.hand s.last (sym c.if-is-last.ensures))
-          ∙ looks_left c.loop-look.-look s.marks s.hand s.last c.loop-look-test.true ∙ c.loop-look.invariant.0,
+      sym (look_last (18 - (c.loop-look._look + 1)) s.marks s.hand s.last (sym c.if-is_last.ensures))
+          ∙ looks_left c.loop-look._look s.marks s.hand s.last c.loop-look-test.true ∙ c.loop-look.invariant.0,
       c.loop-look.invariant.1,
     )
 
@@ -19,8 +19,8 @@ pub returns-then-not-self-way : goal.returns-then-not-self-way
 returns-then-not-self-way c =
     let s = c.loop-look.self in
     let e : ◌≡◌ {A = Swept} (record { way = s.hand; marks = s.marks; hand = beyond s.hand }) (swept c.args.self.now.marks c.args.self.now.hand c.args.self.now.last) =
-    sym (look_free (18 - (c.loop-look.-look + 1)) s.marks s.hand s.last (sym c.if-is-last.ensures) c.if-not-self-way.true)
-    ∙ looks_left c.loop-look.-look s.marks s.hand s.last c.loop-look-test.true ∙ c.loop-look.invariant.0 in
+    sym (look_free (18 - (c.loop-look._look + 1)) s.marks s.hand s.last (sym c.if-is_last.ensures) c.if-not-self-way.true)
+    ∙ looks_left c.loop-look._look s.marks s.hand s.last c.loop-look-test.true ∙ c.loop-look.invariant.0 in
     record {
       way = ap (λ (w : Swept). w.way) e;
       marks = ap (λ (w : Swept). w.marks) e;
@@ -31,8 +31,8 @@ returns-then-not-self-way c =
 pub loop-look-preserved : goal.loop-look-preserved
 loop-look-preserved c =
     let s = c.loop-look.self in (
-      sym (look_marked (18 - (c.loop-look.-look + 1)) s.marks s.hand s.last (sym c.if-is-last.ensures) c.if-not-self-way.false)
-          ∙ looks_left c.loop-look.-look s.marks s.hand s.last c.loop-look-test.true ∙ c.loop-look.invariant.0,
+      sym (look_marked (18 - (c.loop-look._look + 1)) s.marks s.hand s.last (sym c.if-is_last.ensures) c.if-not-self-way.false)
+          ∙ looks_left c.loop-look._look s.marks s.hand s.last c.loop-look-test.true ∙ c.loop-look.invariant.0,
       c.loop-look.invariant.1,
     )
 
@@ -40,7 +40,7 @@ pub returns : goal.returns
 returns c =
     let s = c.loop-look.self in
     let e : ◌≡◌ {A = Swept} (record { way = s.hand; marks = s.marks; hand = s.hand }) (swept c.args.self.now.marks c.args.self.now.hand c.args.self.now.last) =
-    no_look_left c.loop-look.-look s.marks s.hand s.last c.loop-look-test.false ∙ c.loop-look.invariant.0 in
+    no_look_left c.loop-look._look s.marks s.hand s.last c.loop-look-test.false ∙ c.loop-look.invariant.0 in
     record {
       way = ap (λ (w : Swept). w.way) e;
       marks = ap (λ (w : Swept). w.marks) e;

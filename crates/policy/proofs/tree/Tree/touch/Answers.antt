@@ -8,8 +8,8 @@ touched_now : (c : After-turn-4) → c.turn-4.new.nodes ≡ touched c.args.self.
 touched_now c =
     four_turns c.args.self.now.nodes c.turn.new.nodes c.turn-2.new.nodes c.turn-3.new.nodes c.turn-4.new.nodes c.args.way c.turn.ensures c.turn-2.ensures c.turn-3.ensures c.turn-4.ensures
 
-pub invariant-of-self : goal.invariant-of-self
-invariant-of-self c = (
+pub invariant_of-self : goal.invariant_of-self
+invariant_of-self c = (
   ap length (touched_now c) ∙ length_touched c.args.self.now.nodes c.args.way ∙ c.args.self.now.full,
   (
     (λ e.

@@ -1,7 +1,7 @@
 use Rattle.std.proofs.Common.{◌≡◌, ◌<◌, ◌≤◌, length, sym, ◌∙◌, arith}
 use Rattle.tlb.proofs.Scans.{found_here, found_past, found_past_empty, found_none}
 use Rattle.tlb.proofs.row.Row.find.Goals as goal
-use Rattle.tlb.proofs.row.Row.find.Goals.{in-Some+else-is-for, in-default}
+use Rattle.tlb.proofs.row.Row.find.Goals.{in-Some+else-is_for, in_default}
 
 pub loop-i-preserved : goal.loop-i-preserved
 loop-i-preserved c =
@@ -9,8 +9,8 @@ loop-i-preserved c =
     let full = r.full in
     let inside : c.loop-i.i < length r.ways = omega arith in
     elim c.match-way.branch [
-      | in-Some+else-is-for w ↦ sym (found_past r.ways c.loop-i.i c.args.space c.args.page c.way-item.result inside c.way-item.is w.in-Some.held (c.way-item.is ∙ w.in-Some.is) (sym w.if-is-for.ensures)) ∙ c.loop-i.invariant
-      | in-default w ↦ sym (found_past_empty r.ways c.loop-i.i c.args.space c.args.page c.way-item.result inside c.way-item.is (c.way-item.is ∙ w.in-default.is)) ∙ c.loop-i.invariant
+      | in-Some+else-is_for w ↦ sym (found_past r.ways c.loop-i.i c.args.space c.args.page c.way-item.result inside c.way-item.is w.in-Some.held (c.way-item.is ∙ w.in-Some.is) (sym w.if-is_for.ensures)) ∙ c.loop-i.invariant
+      | in_default w ↦ sym (found_past_empty r.ways c.loop-i.i c.args.space c.args.page c.way-item.result inside c.way-item.is (c.way-item.is ∙ w.in_default.is)) ∙ c.loop-i.invariant
     ]
 
 pub returns : goal.returns
@@ -19,9 +19,9 @@ returns c =
     let full = r.full in
     sym (found_none r.ways c.loop-i.i c.args.space c.args.page (omega arith)) ∙ c.loop-i.invariant
 
-pub returns-then-is-for : goal.returns-then-is-for
-returns-then-is-for c =
+pub returns-then-is_for : goal.returns-then-is_for
+returns-then-is_for c =
     let r = c.args.self.now in
     let full = r.full in
     let inside : c.loop-i.i < length r.ways = omega arith in
-    sym (found_here r.ways c.loop-i.i c.args.space c.args.page c.way-item.result inside c.way-item.is c.in-Some.held (c.way-item.is ∙ c.in-Some.is) (sym c.if-is-for.ensures)) ∙ c.loop-i.invariant
+    sym (found_here r.ways c.loop-i.i c.args.space c.args.page c.way-item.result inside c.way-item.is c.in-Some.held (c.way-item.is ∙ c.in-Some.is) (sym c.if-is_for.ensures)) ∙ c.loop-i.invariant

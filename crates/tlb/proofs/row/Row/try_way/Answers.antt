@@ -6,23 +6,23 @@ use Rattle.tlb.proofs.row.Row.try_way.Goals as goal
 use Rattle.tlb.proofs.row.Row.try_way.Goals.{In-ok-way, In-ok-held}
 
 -- the way found is one of sixteen
-inside : (c : In-ok-way) → c.in-ok-way.way < 16
+inside : (c : In-ok-way) → c.in_ok-way.way < 16
 inside c =
     let r = c.args.self.now in
     let full = r.full in
-    let l = found_within c.args.space c.args.page 0 r.ways c.in-ok-way.way (sym c.in-ok-way.ensures) in
+    let l = found_within c.args.space c.args.page 0 r.ways c.in_ok-way.way (sym c.in_ok-way.ensures) in
     omega arith
 
 -- and holds what was read
-holds : (c : In-ok-held) → get_or c.args.self.now.ways c.in-ok-way.way None ≡ Some c.in-ok-held.held
+holds : (c : In-ok-held) → get_or c.args.self.now.ways c.in_ok-way.way None ≡ Some c.in_ok-held.held
 holds c =
     let r = c.args.self.now in
     let full = r.full in
-    let l = found_within c.args.space c.args.page 0 r.ways c.in-ok-way.way (sym c.in-ok-way.ensures) in
-    get_or_default c.args.self.now.ways c.in-ok-way.way None c.index-self-way.result (omega arith) ∙ c.in-ok-held.was
+    let l = found_within c.args.space c.args.page 0 r.ways c.in_ok-way.way (sym c.in_ok-way.ensures) in
+    get_or_default c.args.self.now.ways c.in_ok-way.way None c.index-self-way.result (omega arith) ∙ c.in_ok-held.was
 
-pub offset-bounds-self-way : goal.offset-bounds-self-way
-offset-bounds-self-way c = let h = inside (goal.at.offset-bounds-self-way c).In-ok-way in omega arith
+pub offset_bounds-self-way : goal.offset_bounds-self-way
+offset_bounds-self-way c = let h = inside (goal.at.offset_bounds-self-way c).In-ok-way in omega arith
 
 pub listed : goal.listed
 listed c = let h = inside (goal.at.listed c).In-ok-way in let full = c.args.self.now.full in omega arith
@@ -34,18 +34,18 @@ pub returns-then-serves : goal.returns-then-serves
 returns-then-serves c =
     let r = c.args.self.now in
     let q = c.args.access.now in
-    let way = c.in-ok-held.held in
-    let at = sym c.in-ok-way.ensures in
+    let way = c.in_ok-held.held in
+    let at = sym c.in_ok-way.ensures in
     let held = holds (goal.at.returns-then-serves c).In-ok-held in
     let e = sym c.if-serves.ensures in
     record {
-      answer = sym (served_hit c.args.space c.args.page q r.ways c.in-ok-way.way way at held e);
-      ways = sym (tried_hit c.args.space c.args.page q r.ways c.in-ok-way.way way at held e);
+      answer = sym (served_hit c.args.space c.args.page q r.ways c.in_ok-way.way way at held e);
+      ways = sym (tried_hit c.args.space c.args.page q r.ways c.in_ok-way.way way at held e);
       within = (inside (goal.at.returns-then-serves c).In-ok-way, way.narrow);
     }
 
-pub offset-bounds-self-way-2 : goal.offset-bounds-self-way-2
-offset-bounds-self-way-2 c = let h = inside (goal.at.offset-bounds-self-way-2 c).In-ok-way in omega arith
+pub offset_bounds-self-way-2 : goal.offset_bounds-self-way-2
+offset_bounds-self-way-2 c = let h = inside (goal.at.offset_bounds-self-way-2 c).In-ok-way in omega arith
 
 pub listed-2 : goal.listed-2
 listed-2 c = let h = inside (goal.at.listed-2 c).In-ok-way in let full = c.args.self.now.full in omega arith
@@ -57,12 +57,12 @@ pub returns : goal.returns
 returns c =
     let r = c.args.self.now in
     let q = c.args.access.now in
-    let way = c.in-ok-held.held in
-    let at = sym c.in-ok-way.ensures in
+    let way = c.in_ok-held.held in
+    let at = sym c.in_ok-way.ensures in
     let held = holds (goal.at.returns c).In-ok-held in
     let e = sym c.if-serves.ensures in
     record {
-      answer = sym (served_miss c.args.space c.args.page q r.ways c.in-ok-way.way way at held e);
-      ways = sym (tried_miss c.args.space c.args.page q r.ways c.in-ok-way.way way at held e);
+      answer = sym (served_miss c.args.space c.args.page q r.ways c.in_ok-way.way way at held e);
+      ways = sym (tried_miss c.args.space c.args.page q r.ways c.in_ok-way.way way at held e);
       within = tt;
     }

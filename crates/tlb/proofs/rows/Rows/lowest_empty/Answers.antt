@@ -11,6 +11,6 @@ returns c =
     let e = row_at_is rows c.args.hart c.index-self-hart.result h in
     let row = get_or rows c.args.hart c.index-self-hart.result in
     record {
-      way = c.lowest-empty.ensures ∙ ap (empty_in 0) e;
-      within = empty_each row.ways 16 row.full c.lowest-empty.result c.lowest-empty.ensures;
+      way = c.lowest_empty.ensures ∙ ap (empty_in 0) e;
+      within = empty_each row.ways 16 row.full c.lowest_empty.result c.lowest_empty.ensures;
     }

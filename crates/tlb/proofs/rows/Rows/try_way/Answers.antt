@@ -12,8 +12,8 @@ returns c =
     let h : c.args.hart < length c.args.self.now.rows = search rules in
     let e = row_at_is rows c.args.hart c.index-self-hart.result h in
     record {
-      answer = c.try-way.ensures.answer ∙ ap (served c.args.space c.args.page c.args.access.now) e;
-      rows = row_put rows c.args.hart c.try-way.new.self _ (c.try-way.ensures.ways ∙ ap (tried c.args.space c.args.page c.args.access.now) e);
-      within = c.try-way.ensures.within;
+      answer = c.try_way.ensures.answer ∙ ap (served c.args.space c.args.page c.args.access.now) e;
+      rows = row_put rows c.args.hart c.try_way.new.self _ (c.try_way.ensures.ways ∙ ap (tried c.args.space c.args.page c.args.access.now) e);
+      within = c.try_way.ensures.within;
       each = length-map rows ways_of ∙ eight;
     }
