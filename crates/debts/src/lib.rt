@@ -1,4 +1,6 @@
 // Debts: what is still owed to the harts after a mapping was taken away, until each has fenced its page.
+#![tactic(auto)]
+
 mod debt;
 mod ledger;
 mod listing;

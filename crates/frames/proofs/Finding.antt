@@ -1,5 +1,5 @@
 -- What it tells that a frame was found in a state.
-use Rattle.std.proofs.Common.{◌≡◌, ℕ, Bool, true, false, cond, ltb, get_or, Some, None, refl, ◌∙◌, arith}
+use Rattle.std.proofs.Common.{◌≡◌, ℕ, Bool, true, false, cond, ltb, get_or, Some, None, refl, sym, subst, ◌∙◌, arith}
 use Rattle.std.proofs.lemmas.Bool.{and_parts, eqb-true}
 use Rattle.frames.specs.declared.state.FrameState.{FrameState}
 use Rattle.frames.specs.declared.state.FrameState.TheVariants.{Free, Table, Held, Mapped, Owed}
@@ -43,3 +43,9 @@ pub busy_from_is_in : (v : Frames) (frame : ℕ) (from : FrameState) → one fro
 busy_from_is_in v frame from h e =
     let p = and_parts (ltb frame v.limit) (same (get_or v.states frame Free) from) e in
     tag_one (get_or v.states frame Free) from (eqb-true (tag (get_or v.states frame Free)) (tag from) p.1) ∙ h
+
+-- the frame that `find` answers is the one asked for, and busy where the state is
+pub found_busy : (v : Frames) (frame f : ℕ) (from : FrameState) → one from ≡ 1 → cond (is_in v frame from) (Some frame) None ≡ Some f → one (get_or v.states f Free) ≡ 1
+found_busy v frame f from h e =
+    let p = found_some (is_in v frame from) frame f e in
+    subst (λ (n : ℕ). one (get_or v.states n Free) ≡ 1) (sym p.1) (busy_from_is_in v frame from h p.0)

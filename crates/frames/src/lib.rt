@@ -1,4 +1,7 @@
 // The frame pool: every frame's state, the pile of released frames, and the mark below which frames were used.
+#![tactic(auto)]
+
+mod numbered;
 mod pile;
 mod pool;
 mod state;

@@ -2,7 +2,7 @@
 ghost use Rattle.std.specs.Prelude.{◌≡◌, ◌<◌, min, if◌then◌else◌, Some, None, nat_lt, slice_index_or};
 ghost use Rattle.frames.specs.declared.state.FrameState.TheVariants.{Free};
 ghost use Rattle.frames.specs.Busy.{one};
-ghost use Rattle.frames.specs.Frames.{frames_of, available, next, taken, is_in, turned, freed};
+ghost use Rattle.frames.specs.Frames.{frames_of, available, next, taken, released, changed};
 ghost use Rattle.frames.specs.Frames as value;
 
 use crate::pile::Pile;
@@ -41,7 +41,7 @@ impl Pool {
     }
 
     /// Takes the next frame: the top of the pile, else the lowest never used.
-    pub fn take(&mut self, to: FrameState) -> Option<u16>
+    pub fn take(&mut self, to: FrameState) -> Option<usize>
         requires { one to ≡ 1 }
         ensures frame { result ≡ next (frames_of self.old) }
         ensures after { frames_of self.new ≡ taken (frames_of self.old) to }
@@ -49,12 +49,12 @@ impl Pool {
         let Some(frame) = self.pile.pop() else {
             return self.take_unused(to);
         };
-        self.states[frame as usize] = to;
+        self.states[frame] = to;
         Some(frame)
     }
 
     /// Takes the lowest frame never used, where the pile is empty.
-    fn take_unused(&mut self, to: FrameState) -> Option<u16>
+    fn take_unused(&mut self, to: FrameState) -> Option<usize>
         requires { (one to ≡ 1) × (self.old.pile.height ≡ 0) }
         ensures frame { result ≡ next (frames_of self.old) }
         ensures after { frames_of self.new ≡ taken (frames_of self.old) to }
@@ -65,44 +65,23 @@ impl Pool {
         let frame = self.mark;
         self.mark = frame + 1;
         self.states[frame] = to;
-        Some(frame as u16)
+        Some(frame)
     }
 
-    /// A number as that of a frame of the pool in this state.
-    pub fn find(&self, frame: u64, state: FrameState) -> Option<u16>
-        ensures { result ≡ (if is_in (frames_of self.now) frame state then Some frame else None) }
+    /// Puts a busy frame on the pile.
+    pub fn release(&mut self, frame: usize)
+        requires { one (slice_index_or (frames_of self.old).states frame Free) ≡ 1 }
+        ensures { frames_of self.new ≡ released (frames_of self.old) frame }
     {
-        if frame < self.limit as u64 && self.states[frame as usize].is(state) {
-            Some(frame as u16)
-        } else {
-            None
-        }
+        self.states[frame] = FrameState::Free;
+        self.pile.push(frame);
     }
 
-    /// Puts a frame that is in one use to another, and answers whether it was.
-    pub fn turn(&mut self, frame: u64, from: FrameState, to: FrameState) -> bool
-        requires { (one from ≡ 1) × (one to ≡ 1) }
-        ensures answer { result ≡ is_in (frames_of self.old) frame from }
-        ensures after { frames_of self.new ≡ turned (frames_of self.old) frame from to }
+    /// Puts a busy frame to another use.
+    pub fn change(&mut self, frame: usize, into: FrameState)
+        requires { (one (slice_index_or (frames_of self.old).states frame Free) ≡ 1) × (one into ≡ 1) }
+        ensures { frames_of self.new ≡ changed (frames_of self.old) frame into }
     {
-        let Some(found) = self.find(frame, from) else {
-            return false;
-        };
-        self.states[found as usize] = to;
-        true
-    }
-
-    /// Puts a frame that is in a use on the pile, free, and answers whether it was.
-    pub fn release(&mut self, frame: u64, from: FrameState) -> bool
-        requires { one from ≡ 1 }
-        ensures answer { result ≡ is_in (frames_of self.old) frame from }
-        ensures after { frames_of self.new ≡ freed (frames_of self.old) frame from }
-    {
-        let Some(found) = self.find(frame, from) else {
-            return false;
-        };
-        self.states[found as usize] = FrameState::Free;
-        self.pile.push(found);
-        true
+        self.states[frame] = into;
     }
 }

@@ -1,4 +1,6 @@
 // The machine: frames, spaces, tables, harts and debts over a maker's memory and policy.
+#![tactic(auto)]
+
 mod access;
 mod asking;
 mod call;

@@ -1,4 +1,6 @@
 // Tests of the machine through its calls, with each policy and with the adversary.
+#![tactic(auto)]
+
 #[cfg(test)]
 mod asking;
 #[cfg(test)]

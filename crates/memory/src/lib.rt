@@ -1,4 +1,6 @@
 // Memories: a list of doublewords behind one trait, and three ends of it.
+#![tactic(auto)]
+
 mod beyond;
 mod blocks;
 mod interleaved;

@@ -1,4 +1,6 @@
 // Replacement policies: what one means, Tree-PLRU and CLOCK.
+#![tactic(auto)]
+
 mod clock;
 mod dial;
 mod laws;

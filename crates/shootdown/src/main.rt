@@ -1,4 +1,6 @@
 // One shootdown, told from start to end: eight harts, two panels, one frame.
+#![tactic(auto)]
+
 mod story;
 mod telling;
 

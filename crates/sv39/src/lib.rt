@@ -1,4 +1,6 @@
 // Sv39: table entries, addresses, and accesses with the rules that a leaf's flags are held to.
+#![tactic(auto)]
+
 mod access;
 mod address;
 mod entry;

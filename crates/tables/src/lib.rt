@@ -1,4 +1,6 @@
 // Page tables in a memory: finding a page's leaf, and growing the tables that lead to it.
+#![tactic(auto)]
+
 mod finding;
 mod growing;
 mod words;

@@ -1,4 +1,6 @@
 // Calls and their answers as lines for people.
+#![tactic(auto)]
+
 use machine::{Action, Answer, By, Call, Refusal};
 use std::fmt;
 use sv39::{Mode, Rights};

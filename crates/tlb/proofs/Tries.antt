@@ -1,5 +1,5 @@
 -- What a row answers for an access, by the way that it has for the page.
-use Rattle.std.proofs.Common.{◌≡◌, ℕ, true, false, List, get_or, set, Some, None, Option, ap, ◌∙◌}
+use Rattle.std.proofs.Common.{◌≡◌, ℕ, ◌%◌, ◌^◌, true, false, List, get_or, set, Some, None, Option, ap, ◌∙◌}
 use Rattle.std.proofs.lemmas.Bool.{cond-true, cond-false}
 use Rattle.sv39.specs.declared.access.Access.{Access}
 use Rattle.tlb.specs.declared.way.Way.{Way}
@@ -8,7 +8,7 @@ use Rattle.tlb.specs.Trying.{served, served_at, served_by, tried, tried_at, trie
 use Rattle.tlb.specs.Ways.{serves}
 
 module _ (space page : ℕ) (q : Access) (ways : List (Option Way)) (i : ℕ) (way : Way) (at : found space page 0 ways ≡ Some i) (held : get_or ways i None ≡ Some way) where
-  pub served_hit : serves way q ≡ true → served space page q ways ≡ Some (i, way.frame)
+  pub served_hit : serves way q ≡ true → served space page q ways ≡ Some (i, way.frame % 2 ^ 44)
   served_hit e = ap (served_at q ways) at ∙ ap (served_by q i) held ∙ cond-true (serves way q) _ _ e
 
   pub tried_hit : serves way q ≡ true → tried space page q ways ≡ ways

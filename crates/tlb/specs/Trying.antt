@@ -1,14 +1,14 @@
 -- A row asked for an access to a page of a space.
-use Rattle.std.specs.Prelude.{ℕ, cond, List, Some, None, Option, slice_index_or, slice_set}
+use Rattle.std.specs.Prelude.{ℕ, ◌%◌, ◌^◌, cond, List, Some, None, Option, slice_index_or, slice_set}
 use Rattle.sv39.specs.declared.access.Access.{Access}
 use Rattle.tlb.specs.declared.way.Way.{Way}
 use Rattle.tlb.specs.Rows.{found}
 use Rattle.tlb.specs.Ways.{serves}
 
--- the way for the page, if it passes the rights step and the A/D step, with its frame
+-- the way for the page, if it passes the rights step and the A/D step, with its frame: a number of 44 bits
 abbrev pub served_by : Access → ℕ → Option Way → Option (ℕ × ℕ)
 served_by q i None = None
-served_by q i (Some way) = cond (serves way q) (Some (i, way.frame)) None
+served_by q i (Some way) = cond (serves way q) (Some (i, way.frame % 2 ^ 44)) None
 
 abbrev pub served_at : Access → List (Option Way) → Option ℕ → Option (ℕ × ℕ)
 served_at q ways None = None

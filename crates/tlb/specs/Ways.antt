@@ -1,23 +1,13 @@
 -- Ways: what one holds, which page of which space it is for, and which accesses it serves.
-use Rattle.std.specs.Prelude.{ℕ, ◌%◌, ◌^◌, Bool, true, false, ◌&&◌, ◌==◌}
-use Rattle.std.proofs.Common.{mod-lt, lit<}
+use Rattle.std.specs.Prelude.{ℕ, Bool, true, false, ◌&&◌, ◌==◌}
 use Rattle.sv39.specs.Rules.{permits, marked}
 use Rattle.sv39.specs.declared.access.Access.{Access}
 use Rattle.sv39.specs.declared.entry.Flags.{Flags}
 use Rattle.tlb.specs.declared.way.Way.{Way}
 
--- a frame's number is of 44 bits: what is above them is dropped
 abbrev pub way_of : ℕ → ℕ → ℕ → Flags → Way
 way_of space page frame f =
-    record {
-      space = space;
-      page = page;
-      frame = frame % 2 ^ 44;
-      rights = record { r = f.r; w = f.w; x = f.x; u = f.u };
-      a = f.a;
-      d = f.d;
-      narrow = mod-lt frame (lit< tt);
-    }
+    record { space = space; page = page; frame = frame; rights = record { r = f.r; w = f.w; x = f.x; u = f.u }; a = f.a; d = f.d }
 
 abbrev pub speaks_for : Way → ℕ → ℕ → Bool
 speaks_for way space page = way.space == space && way.page == page

@@ -1,8 +1,7 @@
 // A hart's row among those of all.
 ghost use Rattle.std.specs.Prelude.{◌≡◌, ◌^◌, ◌<◌, length, replicate, IfSome, Some, None, slice_set};
 ghost use Rattle.tlb.specs.Harts.{rows_of, row_at};
-ghost use Rattle.tlb.specs.Rows.{fenced, emptied};
-ghost use Rattle.tlb.specs.Slots.{empty_in};
+ghost use Rattle.tlb.specs.Rows.{empty_in, fenced, emptied};
 ghost use Rattle.tlb.specs.Trying.{served, tried};
 
 use crate::row::Row;

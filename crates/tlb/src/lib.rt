@@ -1,11 +1,13 @@
 // A hart's TLB: a row of sixteen ways.
+#![tactic(auto)]
+
 mod by_hart;
 mod listing;
 mod reading;
 mod row;
 mod rows;
+mod serving;
 mod slots;
-mod speaking;
 mod trying;
 mod way;
 

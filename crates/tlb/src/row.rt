@@ -1,9 +1,7 @@
 // A row of ways: finding, filling and emptying them.
 ghost use Rattle.std.specs.Prelude.{◌≡◌, ◌<◌, length, replicate, Some, None, slice_set};
-ghost use Rattle.tlb.specs.Rows.{found, matches, covered, fenced, emptied};
-ghost use Rattle.tlb.specs.Slots.{empty_in};
+ghost use Rattle.tlb.specs.Rows.{found, empty_in, matches, covered, fenced, emptied};
 
-use crate::slots::lowest_empty;
 use crate::way::Way;
 
 #[derive(Clone, Copy)]
@@ -57,7 +55,12 @@ impl Row {
     pub fn lowest_empty(&self) -> Option<usize>
         ensures { result ≡ empty_in 0 self.now.ways }
     {
-        lowest_empty(&self.ways)
+        for (i, way) in self.ways.iter().enumerate() {
+            if way.is_none() {
+                return Some(i);
+            }
+        }
+        None
     }
 
     /// Empties the ways for a space or all, at a page or all, and answers how many.

@@ -6,8 +6,8 @@ use crate::row::Row;
 use sv39::Access;
 
 impl Row {
-    /// The way that serves an access to a page of a space, with its frame. The way for that page is emptied where it does
-    /// not serve it.
+    /// The way that serves an access to a page of a space, with its frame as a number of 44 bits. The way for that page is
+    /// emptied where it does not serve it.
     pub fn try_way(&mut self, space: u64, page: u64, access: &Access) -> Option<(usize, u64)>
         ensures answer { result ≡ served space page access.now self.old.ways }
         ensures ways { self.new.ways ≡ tried space page access.now self.old.ways }
@@ -16,7 +16,7 @@ impl Row {
         let way = self.find(space, page)?;
         let held = self.ways[way]?;
         if held.serves(access) {
-            return Some((way, held.frame));
+            return Some((way, held.frame % (1 << 44)));
         }
         self.ways[way] = None;
         None

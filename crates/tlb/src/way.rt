@@ -1,10 +1,10 @@
 // What a way of a TLB holds.
-ghost use Rattle.std.specs.Prelude.{◌^◌, ◌<◌};
+ghost use Rattle.std.specs.Prelude.{◌≡◌};
+ghost use Rattle.tlb.specs.Ways.{speaks_for, flags_of, way_of};
 
-use sv39::Rights;
+use sv39::{Flags, Rights};
 
-/// A page of a space, the frame that it leads to, and the leaf's R, W, X, U, A and D. A frame's number is of 44 bits, as
-/// a PPN is.
+/// A page of a space, the frame that it leads to, and the leaf's R, W, X, U, A and D.
 #[derive(Clone, Copy, PartialEq, Eq, Debug)]
 pub struct Way {
     pub space: u64,
@@ -13,5 +13,50 @@ pub struct Way {
     pub rights: Rights,
     pub a: bool,
     pub d: bool,
-    ghost narrow: { frame < 2 ^ 44 },
+}
+
+impl Way {
+    /// The way for a page of a space that a leaf with these flags leads to a frame.
+    pub fn new(space: u64, page: u64, frame: u64, flags: Flags) -> Way
+        ensures { result ≡ way_of space page frame flags }
+    {
+        let rights = Rights {
+            r: flags.r,
+            w: flags.w,
+            x: flags.x,
+            u: flags.u,
+        };
+        Way {
+            space,
+            page,
+            frame,
+            rights,
+            a: flags.a,
+            d: flags.d,
+        }
+    }
+
+    /// Whether it is for this page of this space.
+    pub fn is_for(&self, space: u64, page: u64) -> bool
+        ensures { result ≡ speaks_for self.now space page }
+    {
+        self.space == space && self.page == page
+    }
+
+    /// Its flags as a leaf's, for the rights step and the A/D step.
+    pub fn flags(&self) -> Flags
+        ensures { result ≡ flags_of self.now }
+    {
+        let Rights { r, w, x, u } = self.rights;
+        Flags {
+            v: true,
+            r,
+            w,
+            x,
+            u,
+            g: false,
+            a: self.a,
+            d: self.d,
+        }
+    }
 }

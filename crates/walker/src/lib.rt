@@ -1,4 +1,6 @@
 // The walk of Sv39 page tables over any memory, its faults and its laws.
+#![tactic(auto)]
+
 mod fault;
 mod laws;
 mod walking;

@@ -1,4 +1,6 @@
 // Tests of level one: each refusal by its example, nested memories, damaged blocks.
+#![tactic(auto)]
+
 #[cfg(test)]
 mod damage;
 #[cfg(test)]

@@ -1,4 +1,6 @@
 // Runs walk vectors: memories and cases from standard input, a line for each case to standard output.
+#![tactic(auto)]
+
 mod vectors;
 
 ghost use Rattle.std.specs.Prelude.{◌≡◌};

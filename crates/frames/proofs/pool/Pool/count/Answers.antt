@@ -4,7 +4,7 @@ use Rattle.frames.specs.declared.state.FrameState.{FrameState}
 use Rattle.frames.specs.declared.state.FrameState.TheVariants.{Free}
 use Rattle.frames.specs.Busy.{same}
 use Rattle.frames.proofs.pool.Pool.count.Goals as goal
-use Rattle.frames.proofs.pool.Pool.count.Goals.{then_is, else_is}
+use Rattle.frames.proofs.pool.Pool.count.Goals.{then-is, else-is}
 
 pub loop-i-preserved : goal.loop-i-preserved
 loop-i-preserved c =
@@ -16,11 +16,11 @@ loop-i-preserved c =
     let inside : i < length p.states = omega arith in
     let inv = c.loop-i.invariant in
     elim c.if-is.branch [
-      | then_is w ↦
+      | then-is w ↦
           let more = count_by_more_yes in_state p.states i Free inside (sym c.is.ensures ∙ w.if-is.true) in
           let n = w.count-is in
           (w.count-is ∙ ap (λ (k : ℕ). k + 1) inv.0 ∙ sym more, omega arith)
-      | else_is w ↦
+      | else-is w ↦
           let more = count_by_more_no in_state p.states i Free inside (sym c.is.ensures ∙ w.if-is.false) in
           let n = w.count-is in
           (w.count-is ∙ inv.0 ∙ sym more, omega arith)

@@ -7,16 +7,14 @@ use Rattle.frames.proofs.Takes.{pool}
 use Rattle.frames.proofs.pool.Pool.new.Goals as goal
 
 pub invariant_of-result : goal.invariant_of-result
-invariant_of-result c = (
-  (refl, ap length c.empty.ensures.frames),
-  (
-    (omega arith, omega arith),
-    (
-      omega arith,
-      ((λ i l. absurd (omega arith)), ((λ i j l u e. absurd (omega arith)), ((λ f l. all_free 1024 f), tt))),
-    ),
-  ),
-)
+invariant_of-result c = record {
+  full = (refl, ap length c.empty.ensures.frames);
+  bounds = (omega arith, omega arith);
+  balance = omega arith;
+  piled = λ i l. absurd (omega arith);
+  apart = λ i j l u e. absurd (omega arith);
+  unused = λ f l. all_free 1024 f;
+}
 
 pub returns : goal.returns
 returns c =

@@ -14,7 +14,8 @@ returns-then-self c =
 pub invariant_of-self : goal.invariant_of-self
 invariant_of-self c =
     let p = c.args.self.now in
-    unused_sound p.states p.pile.frames p.pile.height p.mark p.limit (sound p) c.args.to c.if-self.false c.requires.0
+    let m = unused_sound p.states p.pile.frames p.pile.height p.mark p.limit (sound p) c.args.to c.if-self.false c.requires.0 in
+    record { full = m.0; bounds = m.1.0; balance = m.1.1.0; piled = m.1.1.1.0; apart = m.1.1.1.1.0; unused = m.1.1.1.1.1.0 }
 
 pub returns : goal.returns
 returns c =

@@ -1,14 +1,20 @@
-use Rattle.std.proofs.Common.{◌≡◌, ℕ, get_or, sym, subst}
-use Rattle.frames.specs.declared.state.FrameState.TheVariants.{Free}
-use Rattle.frames.specs.Busy.{one}
-use Rattle.frames.specs.Frames.{frames_of}
-use Rattle.frames.proofs.Finding.{found_some, busy_from_is_in}
-use Rattle.frames.proofs.Soundness.{sound, changed_sound}
+use Rattle.std.proofs.Common.{sym, ap, ◌∙◌}
+use Rattle.std.proofs.lemmas.Bool.{cond-true}
+use Rattle.frames.specs.Frames.{frames_of, is_in, changed}
+use Rattle.frames.proofs.Finding.{found_some, found_busy}
 use Rattle.frames.proofs.pool.Pool.turn.Goals as goal
 
-pub invariant_of-self : goal.invariant_of-self
-invariant_of-self c =
-    let p = c.args.self.now in
-    let e = found_some _ c.args.frame c.in-Some.found (sym c.in-Some.ensures) in
-    changed_sound _ _ _ _ _ (sound p) c.in-Some.found c.args.to
-    (subst (λ (f : ℕ). one (get_or p.states f Free) ≡ 1) (sym e.1) (busy_from_is_in (frames_of p) c.args.frame c.args.from c.requires.0 e.0)) c.requires.1
+pub change-requires : goal.change-requires
+change-requires c =
+    (found_busy (frames_of c.args.self.now) c.args.frame c.in-Some.found c.args.from c.requires.0 (sym c.in-Some.ensures), c.requires.1)
+
+pub returns : goal.returns
+returns c =
+    let v = frames_of c.args.self.now in
+    let p = found_some (is_in v c.args.frame c.args.from) c.args.frame c.in-Some.found (sym c.in-Some.ensures) in
+    record {
+      answer = sym p.0;
+      after =
+          c.change.ensures ∙ ap (λ n. changed v n c.args.to) p.1
+          ∙ sym (cond-true (is_in v c.args.frame c.args.from) _ _ p.0);
+    }

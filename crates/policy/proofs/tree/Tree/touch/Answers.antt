@@ -9,15 +9,12 @@ touched_now c =
     four_turns c.args.self.now.nodes c.turn.new.nodes c.turn-2.new.nodes c.turn-3.new.nodes c.turn-4.new.nodes c.args.way c.turn.ensures c.turn-2.ensures c.turn-3.ensures c.turn-4.ensures
 
 pub invariant_of-self : goal.invariant_of-self
-invariant_of-self c = (
-  ap length (touched_now c) ∙ length_touched c.args.self.now.nodes c.args.way ∙ c.args.self.now.full,
-  (
-    (λ e.
-        let w : c.args.way ≡ followed c.turn-4.new.nodes = cc in
-        touched_away c.args.self.now.nodes c.args.way c.requires c.args.self.now.full (sym (w ∙ ap followed (touched_now c)))),
-    tt,
-  ),
-)
+invariant_of-self c = record {
+  full = ap length (touched_now c) ∙ length_touched c.args.self.now.nodes c.args.way ∙ c.args.self.now.full;
+  apart = λ e.
+      let w : c.args.way ≡ followed c.turn-4.new.nodes = cc in
+      touched_away c.args.self.now.nodes c.args.way c.requires c.args.self.now.full (sym (w ∙ ap followed (touched_now c)));
+}
 
 pub returns : goal.returns
 returns c = record { nodes = touched_now (goal.at.returns c).After-turn-4; last = refl }

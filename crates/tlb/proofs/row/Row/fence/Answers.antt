@@ -1,5 +1,4 @@
 use Rattle.std.proofs.Common.{◌≡◌, ◌<◌, length, sym, ap, ◌∙◌, arith}
-use Rattle.tlb.specs.Rows.{covered}
 use Rattle.tlb.specs.declared.row.Row.{Row}
 use Rattle.tlb.proofs.Scans.{step_covered, step_other, fenced_all, emptied_all}
 use Rattle.tlb.proofs.row.Row.fence.Goals as goal
@@ -15,12 +14,12 @@ loop-i-preserved c =
     let inside_now : c.loop-i.i < length s.ways = omega arith in
     elim c.if-is_covered.branch [
       | then-is_covered w ↦
-          let m = step_covered c.args.space c.args.page r.ways s.ways c.loop-i.i inside c.loop-i.invariant.0 c.index-self-i.result inside_now c.index-self-i.is (ap (covered c.args.space c.args.page) c.index-self-i.is ∙ sym c.is_covered.ensures ∙ w.if-is_covered.true) in
+          let m = step_covered c.args.space c.args.page r.ways s.ways c.loop-i.i inside c.loop-i.invariant.0 inside_now (sym c.is_covered.ensures ∙ w.if-is_covered.true) in
           let n = w.count-is in
           let k = c.loop-i.invariant in
           (ap (λ (x : Row). x.ways) w.self-is ∙ m.0, omega arith, omega arith)
       | else-is_covered w ↦
-          let m = step_other c.args.space c.args.page r.ways s.ways c.loop-i.i inside c.loop-i.invariant.0 c.index-self-i.result inside_now c.index-self-i.is (ap (covered c.args.space c.args.page) c.index-self-i.is ∙ sym c.is_covered.ensures ∙ w.if-is_covered.false) in
+          let m = step_other c.args.space c.args.page r.ways s.ways c.loop-i.i inside c.loop-i.invariant.0 inside_now (sym c.is_covered.ensures ∙ w.if-is_covered.false) in
           let n = w.count-is in
           let k = c.loop-i.invariant in
           (ap (λ (x : Row). x.ways) w.self-is ∙ m.0, omega arith, omega arith)

@@ -9,8 +9,8 @@ loop-i-preserved c =
     let full = r.full in
     let inside : c.loop-i.i < length r.ways = omega arith in
     elim c.match-way.branch [
-      | in-Some+else-is_for w ↦ sym (found_past r.ways c.loop-i.i c.args.space c.args.page c.way-item.result inside c.way-item.is w.in-Some.held (c.way-item.is ∙ w.in-Some.is) (sym w.if-is_for.ensures)) ∙ c.loop-i.invariant
-      | in_default w ↦ sym (found_past_empty r.ways c.loop-i.i c.args.space c.args.page c.way-item.result inside c.way-item.is (c.way-item.is ∙ w.in_default.is)) ∙ c.loop-i.invariant
+      | in-Some+else-is_for w ↦ sym (found_past r.ways c.loop-i.i c.args.space c.args.page w.in-Some.held inside w.in-Some.is (sym w.if-is_for.ensures)) ∙ c.loop-i.invariant
+      | in_default w ↦ sym (found_past_empty r.ways c.loop-i.i c.args.space c.args.page inside w.in_default.is) ∙ c.loop-i.invariant
     ]
 
 pub returns : goal.returns
@@ -24,4 +24,4 @@ returns-then-is_for c =
     let r = c.args.self.now in
     let full = r.full in
     let inside : c.loop-i.i < length r.ways = omega arith in
-    sym (found_here r.ways c.loop-i.i c.args.space c.args.page c.way-item.result inside c.way-item.is c.in-Some.held (c.way-item.is ∙ c.in-Some.is) (sym c.if-is_for.ensures)) ∙ c.loop-i.invariant
+    sym (found_here r.ways c.loop-i.i c.args.space c.args.page c.in-Some.held inside c.in-Some.is (sym c.if-is_for.ensures)) ∙ c.loop-i.invariant

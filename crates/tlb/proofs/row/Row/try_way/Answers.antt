@@ -3,10 +3,10 @@ use Rattle.std.proofs.lemmas.List.{get_or_default}
 use Rattle.tlb.proofs.Scans.{found_within}
 use Rattle.tlb.proofs.Tries.{served_hit, tried_hit, served_miss, tried_miss}
 use Rattle.tlb.proofs.row.Row.try_way.Goals as goal
-use Rattle.tlb.proofs.row.Row.try_way.Goals.{In-ok-way, In-ok-held}
+use Rattle.tlb.proofs.row.Row.try_way.Goals.{In_ok-way, In_ok-held}
 
 -- the way found is one of sixteen
-inside : (c : In-ok-way) → c.in_ok-way.way < 16
+inside : (c : In_ok-way) → c.in_ok-way.way < 16
 inside c =
     let r = c.args.self.now in
     let full = r.full in
@@ -14,21 +14,18 @@ inside c =
     omega arith
 
 -- and holds what was read
-holds : (c : In-ok-held) → get_or c.args.self.now.ways c.in_ok-way.way None ≡ Some c.in_ok-held.held
+holds : (c : In_ok-held) → get_or c.args.self.now.ways c.in_ok-way.way None ≡ Some c.in_ok-held.held
 holds c =
     let r = c.args.self.now in
     let full = r.full in
     let l = found_within c.args.space c.args.page 0 r.ways c.in_ok-way.way (sym c.in_ok-way.ensures) in
-    get_or_default c.args.self.now.ways c.in_ok-way.way None c.index-self-way.result (omega arith) ∙ c.in_ok-held.was
+    c.in_ok-held.was
 
 pub offset_bounds-self-way : goal.offset_bounds-self-way
-offset_bounds-self-way c = let h = inside (goal.at.offset_bounds-self-way c).In-ok-way in omega arith
-
-pub listed : goal.listed
-listed c = let h = inside (goal.at.listed c).In-ok-way in let full = c.args.self.now.full in omega arith
+offset_bounds-self-way c = let h = inside (goal.at.offset_bounds-self-way c).In_ok-way in omega arith
 
 pub bounds-self-way : goal.bounds-self-way
-bounds-self-way c = let h = inside (goal.at.bounds-self-way c).In-ok-way in omega arith
+bounds-self-way c = let h = inside (goal.at.bounds-self-way c).In_ok-way in omega arith
 
 pub returns-then-serves : goal.returns-then-serves
 returns-then-serves c =
@@ -36,22 +33,19 @@ returns-then-serves c =
     let q = c.args.access.now in
     let way = c.in_ok-held.held in
     let at = sym c.in_ok-way.ensures in
-    let held = holds (goal.at.returns-then-serves c).In-ok-held in
+    let held = holds (goal.at.returns-then-serves c).In_ok-held in
     let e = sym c.if-serves.ensures in
     record {
       answer = sym (served_hit c.args.space c.args.page q r.ways c.in_ok-way.way way at held e);
       ways = sym (tried_hit c.args.space c.args.page q r.ways c.in_ok-way.way way at held e);
-      within = (inside (goal.at.returns-then-serves c).In-ok-way, way.narrow);
+      within = (inside (goal.at.returns-then-serves c).In_ok-way, omega arith);
     }
 
 pub offset_bounds-self-way-2 : goal.offset_bounds-self-way-2
-offset_bounds-self-way-2 c = let h = inside (goal.at.offset_bounds-self-way-2 c).In-ok-way in omega arith
-
-pub listed-2 : goal.listed-2
-listed-2 c = let h = inside (goal.at.listed-2 c).In-ok-way in let full = c.args.self.now.full in omega arith
+offset_bounds-self-way-2 c = let h = inside (goal.at.offset_bounds-self-way-2 c).In_ok-way in omega arith
 
 pub bounds-self-way-2 : goal.bounds-self-way-2
-bounds-self-way-2 c = let h = inside (goal.at.bounds-self-way-2 c).In-ok-way in omega arith
+bounds-self-way-2 c = let h = inside (goal.at.bounds-self-way-2 c).In_ok-way in omega arith
 
 pub returns : goal.returns
 returns c =
@@ -59,7 +53,7 @@ returns c =
     let q = c.args.access.now in
     let way = c.in_ok-held.held in
     let at = sym c.in_ok-way.ensures in
-    let held = holds (goal.at.returns c).In-ok-held in
+    let held = holds (goal.at.returns c).In_ok-held in
     let e = sym c.if-serves.ensures in
     record {
       answer = sym (served_miss c.args.space c.args.page q r.ways c.in_ok-way.way way at held e);

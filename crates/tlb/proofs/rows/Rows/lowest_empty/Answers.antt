@@ -1,6 +1,7 @@
 use Rattle.std.proofs.Common.{◌<◌, length, get_or, ap, ◌∙◌, rules}
-use Rattle.tlb.specs.Slots.{empty_in}
+use Rattle.tlb.specs.Rows.{empty_in}
 use Rattle.tlb.proofs.Harts.{row_at_is}
+use Rattle.tlb.proofs.Scans.{empty_way}
 use Rattle.tlb.proofs.Sparse.{empty_each}
 use Rattle.tlb.proofs.rows.Rows.lowest_empty.Goals as goal
 
@@ -12,5 +13,5 @@ returns c =
     let row = get_or rows c.args.hart c.index-self-hart.result in
     record {
       way = c.lowest_empty.ensures ∙ ap (empty_in 0) e;
-      within = empty_each row.ways 16 row.full c.lowest_empty.result c.lowest_empty.ensures;
+      within = empty_each row.ways 16 row.full c.lowest_empty.result (c.lowest_empty.ensures ∙ empty_way 0 row.ways);
     }
