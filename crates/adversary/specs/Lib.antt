@@ -1,1 +1,2 @@
 pub mod Steered
+pub mod Steering

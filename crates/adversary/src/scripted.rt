@@ -1,14 +1,15 @@
 // Picks by a script.
-ghost use Rattle.std.specs.Prelude.{◌≡◌, ℕ, ◌<◌, true, get_or, is_err, Some, None, slice_index, slice_index_or};
+ghost use Rattle.std.specs.Prelude.{◌≡◌, ℕ, ◌<◌, true, Some, None, is_err, slice_index, slice_index_or};
 ghost use Rattle.policy.specs.Answers.{touch_of, pick_of, last_after};
 ghost use Rattle.adversary.specs.Steered.{steered, cursor_after, lasts_after};
+ghost use Rattle.adversary.specs.Steering.{steered_within, steered_apart};
 
 use policy::{Policy, PolicyRefusal};
 
 /// The numbers still to be picked begin at `cursor`; past the script's end every number is 0.
 #[derive(Drop)]
-pub struct Scripted<'a> {
-    script: &'a [usize],
+pub struct Scripted {
+    script: Vec<usize>,
     cursor: usize,
     last: [Option<usize>; 8],
 }
@@ -34,10 +35,10 @@ fn number_at(script: &[usize], cursor: usize) -> usize
     }
 }
 
-impl<'a> Scripted<'a> {
+impl Scripted {
     /// At the script's start, no way touched.
-    pub fn new(script: &'a [usize]) -> Scripted<'a>
-        ensures script { result.script.now ≡ script.now }
+    pub fn new(script: Vec<usize>) -> Scripted
+        ensures script { result.script.items ≡ script.items }
         ensures cursor { result.cursor ≡ 0 }
         ensures last { (h : ℕ) → h < 8 → slice_index_or result.last h None ≡ None }
     {
@@ -49,14 +50,18 @@ impl<'a> Scripted<'a> {
     }
 }
 
-impl<'a> Policy for Scripted<'a> {
+impl Policy for Scripted {
     ghost last = { λ p h. slice_index_or p.last h None };
 
-    ghost choice = { λ p h. steered (slice_index p.script.now p.cursor) (slice_index_or p.last h None) };
+    ghost choice = { λ p h. steered (slice_index p.script.items p.cursor) (slice_index_or p.last h None) };
+
+    ghost within = { λ p hart h. steered_within (slice_index p.script.items p.cursor) (slice_index_or p.last hart None) };
+
+    ghost apart = { λ p hart h. steered_apart (slice_index p.script.items p.cursor) (slice_index_or p.last hart None) };
 
     fn touch(&mut self, hart: usize, way: usize) -> Result<(), PolicyRefusal>
         ensures answer { result ≡ touch_of hart way }
-        ensures last { (h : ℕ) → h < 8 → slice_index_or self.new.last h None ≡ last_after (λ k. get_or self.old.last k None) hart way h }
+        ensures last { (h : ℕ) → h < 8 → slice_index_or self.new.last h None ≡ last_after (λ k. slice_index_or self.old.last k None) hart way h }
         ensures refused { is_err result ≡ true → self.new ≡ self.old }
         ensures script { self.new.script ≡ self.old.script }
         ensures cursor { self.new.cursor ≡ self.old.cursor }
@@ -73,7 +78,7 @@ impl<'a> Policy for Scripted<'a> {
     }
 
     fn pick(&mut self, hart: usize) -> Result<usize, PolicyRefusal>
-        ensures answer { result ≡ pick_of (steered (slice_index self.old.script.now self.old.cursor) (slice_index_or self.old.last hart None)) hart }
+        ensures answer { result ≡ pick_of (steered (slice_index self.old.script.items self.old.cursor) (slice_index_or self.old.last hart None)) hart }
         ensures last { (h : ℕ) → h < 8 → slice_index_or self.new.last h None ≡ slice_index_or self.old.last h None }
         ensures refused { is_err result ≡ true → self.new ≡ self.old }
         ensures script { self.new.script ≡ self.old.script }
@@ -83,7 +88,7 @@ impl<'a> Policy for Scripted<'a> {
         if hart >= 8 {
             return Err(PolicyRefusal::NoHart);
         }
-        let number = number_at(self.script, self.cursor);
+        let number = number_at(&self.script, self.cursor);
         self.cursor = self.cursor.saturating_add(1);
         Ok(steer(number, self.last[hart]))
     }

@@ -11,6 +11,7 @@ use anyhow::{Context, anyhow};
 use memory::Words;
 use std::alloc::Global;
 use std::io::{BufRead, BufReader};
+use std::str::Split;
 use vectors::{Case, Outcome};
 use walker::walk;
 
@@ -46,34 +47,41 @@ impl Board {
     }
 }
 
+/// A board of as many doublewords as the words `NAME SIZE` say.
+fn board_of(heap: Global, words: &mut Split<'_, char>) -> anyhow::Result<Board> {
+    let _name = words.next();
+    let size = vectors::number(words.next().unwrap_or("")).context("a memory without a size")?;
+    Board::of_size(heap, size as usize)
+}
+
+/// Does what a line says; answers the number and the outcome of a case.
+fn follow(heap: Global, board: &mut Board, line: &str) -> anyhow::Result<Option<(u64, Outcome)>> {
+    let mut words = line.split(' ');
+    match words.next() {
+        Some("memory") => *board = board_of(heap, &mut words)?,
+        Some("words") => {
+            for assignment in words {
+                board
+                    .set(assignment)
+                    .context("a doubleword that does not fit")?;
+            }
+        }
+        Some("case") => {
+            let case = Case::parse(&mut words).context("a case that does not fit")?;
+            return Ok(Some((case.number, board.run(&case))));
+        }
+        _ => return Err(anyhow!("a line that is no memory, words or case")),
+    }
+    Ok(None)
+}
+
 fn run_all(rt: &HostRuntime) -> anyhow::Result<()> {
     let heap = rt.alloc();
     let mut board = Board::of_size(heap, 0)?;
     for line in BufReader::new(heap, rt.stdin())?.lines(heap) {
         let line = line?;
-        let mut words = line.as_str().split(' ');
-        match words.next() {
-            Some("memory") => {
-                let _name = words.next();
-                let size = vectors::number(words.next().unwrap_or("")).ok_or(
-                    "a memory without a size",
-                )?;
-                board = Board::of_size(heap, size as usize)?;
-            }
-            Some("words") => {
-                for assignment in words {
-                    board
-                        .set(assignment)
-                        .context("a doubleword that does not fit")?;
-                }
-            }
-            Some("case") => {
-                let case = Case::parse(&mut words).context("a case that does not fit")?;
-                let outcome = board.run(&case);
-                let number = case.number;
-                println!(rt; "{number} {outcome}")?;
-            }
-            _ => return Err(anyhow!("a line that is no memory, words or case")),
+        if let Some((number, outcome)) = follow(heap, &mut board, line.as_str())? {
+            println!(rt; "{number} {outcome}")?;
         }
     }
     Ok(())
