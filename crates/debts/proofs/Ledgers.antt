@@ -3,7 +3,7 @@ use Rattle.std.proofs.Common.{◌≡◌, ℕ, ◌+◌, ◌^◌, ◌<◌, ◌≤�
 use Rattle.std.proofs.lemmas.List.Edits.{map_over_more}
 use Rattle.std.proofs.lemmas.List.{at_drop_more, at_drop_all, take_all, drop_all, append-nil, get_or_default}
 use Rattle.std.proofs.lemmas.Bool.{cond-true, cond-false, eq-eqb, ne_eqb}
-use Rattle.tlb.specs.Slots.{empty_in}
+use Rattle.tlb.specs.Slots.{empty_slot}
 use Rattle.tlb.proofs.Sparse.{empty_below}
 use Rattle.debts.specs.declared.debt.Debt.{Debt}
 use Rattle.debts.specs.Debts.{Debts, room, open_debt, marked_by}
@@ -43,7 +43,7 @@ open_below (Some x ∷ slots) i number n d e = go (λ t. open_below slots (i + 1
 pub room_below : (v : Debts) (n : ℕ) → room v ≡ Some n → n < length v.slots
 room_below v n e = go (ltb v.next (2 ^ 32)) e
   where
-    go : (b : Bool) → cond b (empty_in 0 v.slots) None ≡ Some n → n < length v.slots
+    go : (b : Bool) → cond b (empty_slot 0 v.slots) None ≡ Some n → n < length v.slots
     go true t = let h : n < 0 + length v.slots = empty_below v.slots 0 n t in omega arith
     go false t = let z : ◌≡◌ {A = ℕ} 0 1 = cc in absurd (omega arith)
 

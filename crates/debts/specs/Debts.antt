@@ -2,7 +2,7 @@
 use Rattle.std.specs.Prelude.{ℕ, zero, suc, ◌+◌, ◌^◌, Bool, cond, ◌&&◌, List, [], ◌∷◌, map, replicate, is_some, Some, None, Ok, Err, count_by, Option, Result, ◌==◌, bit_or, nat_lt, slice_set}
 use Rattle.sv39.specs.Layout.{bit}
 use Rattle.tlb.specs.Rows.{matches}
-use Rattle.tlb.specs.Slots.{empty_in}
+use Rattle.tlb.specs.Slots.{empty_slot}
 use Rattle.debts.specs.declared.debt.Debt.{Debt}
 use Rattle.debts.specs.declared.ledger.Ledger.{Ledger}
 use Rattle.debts.specs.declared.settling.Unsettled.{Unsettled}
@@ -21,7 +21,7 @@ none = record { slots = replicate 64 None; next = 0 }
 
 -- where a new debt goes: the lowest empty slot, while numbers are left
 abbrev pub room : Debts → Option ℕ
-room v = cond (nat_lt v.next (2 ^ 32)) (empty_in 0 v.slots) None
+room v = cond (nat_lt v.next (2 ^ 32)) (empty_slot 0 v.slots) None
 
 abbrev pub can_open : Debts → Bool
 can_open v = is_some (room v)

@@ -4,7 +4,7 @@ use Rattle.std.proofs.lemmas.List.{get_or-set_same, set-set}
 use Rattle.sv39.specs.declared.access.Access.{Access}
 use Rattle.sv39.specs.Address.{page}
 use Rattle.tlb.specs.declared.way.Way.{Way}
-use Rattle.tlb.specs.Slots.{empty_in}
+use Rattle.tlb.specs.Rows.{empty_in}
 use Rattle.tlb.specs.Ways.{way_of}
 use Rattle.walker.specs.declared.fault.WalkFault.{WalkFault}
 use Rattle.walker.specs.declared.walking.Translation.{Translation}

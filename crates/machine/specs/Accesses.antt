@@ -5,7 +5,7 @@ use Rattle.sv39.specs.declared.access.Kind.{Kind}
 use Rattle.sv39.specs.declared.access.Kind.TheVariants as kind
 use Rattle.sv39.specs.Address.{page, doubleword_of}
 use Rattle.tlb.specs.declared.way.Way.{Way}
-use Rattle.tlb.specs.Slots.{empty_in}
+use Rattle.tlb.specs.Rows.{empty_in}
 use Rattle.tlb.specs.Trying.{served, tried}
 use Rattle.tlb.specs.Ways.{way_of}
 use Rattle.walker.specs.declared.fault.WalkFault.{WalkFault}

@@ -10,7 +10,7 @@ use Rattle.sv39.specs.Layout.{packed}
 use Rattle.sv39.specs.Making.{leaf_flags, with_flags}
 use Rattle.tables.specs.Growth.{Growth, grown_mid, grown_low, leaf_put}
 use Rattle.tables.specs.Tables.{cleared, leaf_of, missing}
-use Rattle.tlb.specs.Slots.{empty_in}
+use Rattle.tlb.specs.Slots.{empty_slot}
 use Rattle.machine.specs.declared.paging.Protected.{Protected}
 use Rattle.machine.specs.declared.paging.Unmapped.{Unmapped}
 use Rattle.machine.specs.declared.refusal.Refusal.{Refusal}
@@ -46,7 +46,7 @@ space_by s (Some number) (Some frame) = (
 )
 
 abbrev pub space_step : State → Result ℕ Refusal × State
-space_step s = space_by s (empty_in 0 s.roots) (next s.frames)
+space_step s = space_by s (empty_slot 0 s.roots) (next s.frames)
 
 -- grant: the next frame, filled with zeros, is held; 14 where there is none
 abbrev pub grant_by : State → Option ℕ → Result ℕ Refusal × State

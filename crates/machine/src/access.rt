@@ -1,7 +1,7 @@
 // Accesses: a hit in the hart's ways, or a walk that fills one.
 ghost use Rattle.std.specs.Prelude.{◌≡◌, ◌^◌, ◌<◌, IfOk, Some, slice_set};
 ghost use Rattle.tlb.specs.Harts.{rows_of, row_at};
-ghost use Rattle.tlb.specs.Slots.{empty_in};
+ghost use Rattle.tlb.specs.Rows.{empty_in};
 ghost use Rattle.machine.specs.Accesses.{kind_of, access_of, slot_of, word_of, stored, find_step, filled, access_step};
 ghost use Rattle.machine.specs.State.{state_of, eight, row_of, Did};
 

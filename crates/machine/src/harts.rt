@@ -68,7 +68,7 @@ impl<M: Memory, P: Policy> Machine<M, P> {
     {
         let released = self.core.debts.settle(debt, self.core.count)?;
         if let Some(frame) = released {
-            self.core.pool.release(frame, FrameState::Owed);
+            self.core.pool.free(frame, FrameState::Owed);
         }
         Ok(released)
     }

@@ -35,7 +35,7 @@ impl<M: Memory, P: Policy> Machine<M, P> {
         let Some(number) = lowest_empty(&self.core.roots) else {
             return Err(Refusal::SpacesFull);
         };
-        let Some(frame) = self.core.pool.take(FrameState::Table) else {
+        let Some(frame) = self.core.pool.take_number(FrameState::Table) else {
             return Err(Refusal::NoFrame);
         };
         clear_frame(&mut self.memory, frame);
@@ -47,7 +47,7 @@ impl<M: Memory, P: Policy> Machine<M, P> {
     pub fn grant(&mut self) -> Result<u64, Refusal>
         ensures { Did (grant_step (state_of M.Memory.cells P.Policy.last self.old)) result (state_of M.Memory.cells P.Policy.last self.new) }
     {
-        let Some(held) = self.core.pool.take(FrameState::Held) else {
+        let Some(held) = self.core.pool.take_number(FrameState::Held) else {
             return Err(Refusal::NoFrame);
         };
         clear_frame(&mut self.memory, held);
@@ -58,7 +58,7 @@ impl<M: Memory, P: Policy> Machine<M, P> {
     pub fn back(&mut self, frame: u64) -> Result<(), Refusal>
         ensures { Did (back_step (state_of M.Memory.cells P.Policy.last self.old) frame) result (state_of M.Memory.cells P.Policy.last self.new) }
     {
-        if self.core.pool.release(frame, FrameState::Held) {
+        if self.core.pool.free(frame, FrameState::Held) {
             Ok(())
         } else {
             Err(Refusal::NotHeld)

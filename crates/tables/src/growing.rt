@@ -57,7 +57,7 @@ pub fn grow<M: Memory>(
             count: 0,
         };
     }
-    let Some(frame) = pool.take(FrameState::Table) else {
+    let Some(frame) = pool.take_number(FrameState::Table) else {
         return Grown { table, count: 0 };
     };
     clear_frame(memory, frame);
