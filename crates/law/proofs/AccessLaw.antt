@@ -114,22 +114,20 @@ module _ (H : History) (s : State) (g : Good H s) where
         let L = reach.leaf in
         let a = q.address in
         let m = g.tables.mapped L.frame L.table (index a 0) L.there in
-        let narrow : t.frame < 2 ^ 44 = omega (arith, m.0, reach.frame) in
-        let whole : t.frame % 2 ^ 44 ≡ t.frame = mod-eq_of_lt narrow in
         record {
           paged = page_is_page a reach.address;
           home =
               inl
               (record {
                 table = L.table;
-                there = ap g.held (whole ∙ reach.frame) ∙ L.there ∙ ap (in_leaf L.table) (sym (index_of_page a 0));
+                there = ap g.held reach.frame ∙ L.there ∙ ap (in_leaf L.table) (sym (index_of_page a 0));
                 place = L.place ∙ ap (λ (i : ℕ). low space i (index a 1)) (sym (index_of_page a 2)) ∙ ap (low space (index (page a) 2)) (sym (index_of_page a 1));
               });
           root = r;
           rooted = sym (g.roots space) ∙ rooted;
           seen =
               now _
-              (record { q = q; t = t; same_page = refl; walk = e; frame = sym whole; is = refl; room = omega (arith, m.0, reach.frame, whole, g.tables.room) });
+              (record { q = q; t = t; same_page = refl; walk = e; frame = refl; is = refl; room = omega (arith, m.0, reach.frame, g.tables.room) });
         }
 
     had_way : (i : ℕ) (way : Way) → get_or (tried space (page q.address) q (row_of s hart)) i None ≡ Some way → WayGood H s.debts.slots g.at g.held hart way
@@ -172,9 +170,11 @@ module _ (H : History) (s : State) (g : Good H s) where
           inl (ap frame_of y ∙ ap Some same),
         )
     found_by_is x h (hit k y e) =
-        let same = sym y.frame ∙ ap (λ (f : Found). f.frame) (ok_found _ x (answer_at _ _ _ e h)) in
         let way = y.way in
         let w = g.ways hart k.0 way y.there in
+        let lives = way_lives hart way w in
+        let narrow : way.frame < 2 ^ 44 = omega (arith, lives.inside, few) in
+        let same = sym (y.frame ∙ mod-eq_of_lt narrow) ∙ ap (λ (f : Found). f.frame) (ok_found _ x (answer_at _ _ _ e h)) in
         let root_is : w.root ≡ r = some_same w.root r (sym w.rooted ∙ ap (λ (n : ℕ). root_in H n) y.space_is ∙ sym (g.roots space) ∙ rooted) in
         let put : PutSince H space (page q.address) way.frame =
         subst (λ (n : ℕ). PutSince H n (page q.address) way.frame) y.space_is (subst (λ (n : ℕ). PutSince H way.space n way.frame) y.page_is (way_put hart way w)) in
@@ -183,7 +183,7 @@ module _ (H : History) (s : State) (g : Good H s) where
         (subst (λ (n : ℕ). SeenSince (λ cells. frame_of (walked cells r q) ≡ Some way.frame) H hart way.space n) y.page_is
         (subst (λ (n : ℕ). SeenSince (λ cells. frame_of (walked cells n q) ≡ Some way.frame) H hart way.space way.page) root_is
         (seen_map (gives_walk w.root way q y.may (sym y.page_is)) H hart way.space way.page w.seen))) in (
-          (subst (PutSince H space (page q.address)) same put, subst (Lives s) same (way_lives hart way w)),
+          (subst (PutSince H space (page q.address)) same put, subst (Lives s) same lives),
           inr (subst (λ (n : ℕ). SeenSince (λ cells. frame_of (walked cells r q) ≡ Some n) H hart space (page q.address)) same seen),
         )
 

@@ -8,7 +8,7 @@ use Rattle.sv39.specs.declared.access.Access.{Access}
 use Rattle.sv39.specs.Address.{canonical, index, page, page_number, doubleword_of}
 use Rattle.sv39.specs.Making.{leaf_flags}
 use Rattle.tlb.specs.declared.way.Way.{Way}
-use Rattle.tlb.specs.Slots.{empty_in}
+use Rattle.tlb.specs.Rows.{empty_in}
 use Rattle.tlb.specs.Trying.{served, tried}
 use Rattle.tlb.specs.Ways.{way_of}
 use Rattle.walker.specs.declared.fault.WalkFault.{WalkFault}

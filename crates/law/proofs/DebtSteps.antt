@@ -12,7 +12,7 @@ use Rattle.sv39.specs.Address.{index}
 use Rattle.sv39.specs.Layout.{packed, bit}
 use Rattle.sv39.specs.Making.{leaf_doubleword}
 use Rattle.tlb.specs.declared.way.Way.{Way}
-use Rattle.tlb.specs.Slots.{empty_in}
+use Rattle.tlb.specs.Slots.{empty_slot}
 use Rattle.machine.specs.declared.call.Answer.TheVariants as answer
 use Rattle.machine.specs.declared.call.Call.TheVariants.{Protect, Unmap}
 use Rattle.machine.specs.declared.refusal.Refusal.{Refusal}
@@ -38,9 +38,9 @@ pub room_empty : (v : Debts) (n : ℕ) → room v ≡ Some n → (get_or v.slots
 room_empty v n e =
     ⊎_elim
     (λ (t : ltb v.next (2 ^ 32) ≡ true).
-    empty_at v.slots n (sym (cond-true (ltb v.next (2 ^ 32)) (empty_in 0 v.slots) None t) ∙ e))
+    empty_at v.slots n (sym (cond-true (ltb v.next (2 ^ 32)) (empty_slot 0 v.slots) None t) ∙ e))
     (λ (t : ltb v.next (2 ^ 32) ≡ false).
-    absurd (none_not n (sym (cond-false (ltb v.next (2 ^ 32)) (empty_in 0 v.slots) None t) ∙ e))) (cases_Bool (ltb v.next (2 ^ 32)))
+    absurd (none_not n (sym (cond-false (ltb v.next (2 ^ 32)) (empty_slot 0 v.slots) None t) ∙ e))) (cases_Bool (ltb v.next (2 ^ 32)))
 
 module _ (H : History) (s : State) (g : Good H s) where
   leaf_of_is : (space address : ℕ) (leaf : ℕ × Entry) (tells : LeafTells s space address leaf) → Finds s.cells g.at g.held space address leaf.0 leaf.1

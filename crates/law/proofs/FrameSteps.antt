@@ -9,7 +9,7 @@ use Rattle.frames.specs.Frames.{Frames, next, taken, is_in, freed, released}
 use Rattle.sv39.specs.Address.{index}
 use Rattle.tables.specs.Tables.{cleared}
 use Rattle.tlb.specs.declared.way.Way.{Way}
-use Rattle.tlb.specs.Slots.{empty_in}
+use Rattle.tlb.specs.Slots.{empty_slot}
 use Rattle.machine.specs.declared.call.Answer.{Answer}
 use Rattle.machine.specs.declared.call.Answer.TheVariants as answer
 use Rattle.machine.specs.declared.call.Call.{Call}
@@ -53,9 +53,9 @@ module _ (H : History) (s : State) (g : Good H s) (choice : ℕ → ℕ) where
 
   -- a new space: its root is a table, its pages are mapped nowhere, and no hart is in it
   pub space_good : Good (event_of s choice Space ∷ H) (call_step s choice Space).1
-  space_good = at (empty_in 0 s.roots) refl (next s.frames) refl
+  space_good = at (empty_slot 0 s.roots) refl (next s.frames) refl
     where
-      at : (n : Option ℕ) → empty_in 0 s.roots ≡ n → (o : Option ℕ) → next s.frames ≡ o → Good (record { call = Space; answer = told_as answer.Space (space_by s n o).0; cells = s.cells; next = o } ∷ H) (space_by s n o).1
+      at : (n : Option ℕ) → empty_slot 0 s.roots ≡ n → (o : Option ℕ) → next s.frames ≡ o → Good (record { call = Space; answer = told_as answer.Space (space_by s n o).0; cells = s.cells; next = o } ∷ H) (space_by s n o).1
       at None e o x = later _ H (refused_quiet _ SpacesFull refl) s g
       at (Some n) e None x = later _ H (refused_quiet _ NoFrame refl) s g
       at (Some n) e (Some f) x =

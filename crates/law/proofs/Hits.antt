@@ -1,5 +1,5 @@
 -- What a row answers: a way for the page that serves the access, or a row with that way emptied.
-use Rattle.std.proofs.Common.{◌≡◌, ℕ, zero, suc, ◌+◌, ◌<◌, Bool, true, false, cond, not, ◌&&◌, ◌||◌, ◌⊎◌, List, [], ◌∷◌, get_or, set, Some, None, Option, sym, refl, ap, ◌∙◌, subst, inl, inr, ⊎_elim, arith}
+use Rattle.std.proofs.Common.{◌≡◌, ℕ, zero, suc, ◌+◌, ◌%◌, ◌^◌, ◌<◌, Bool, true, false, cond, not, ◌&&◌, ◌||◌, ◌⊎◌, List, [], ◌∷◌, get_or, set, Some, None, Option, sym, refl, ap, ◌∙◌, subst, inl, inr, ⊎_elim, arith}
 use Rattle.std.proofs.lemmas.Bool.{cases_Bool, cond-true, cond-false, and_parts, eqb-true}
 use Rattle.sv39.specs.declared.access.Access.{Access}
 use Rattle.sv39.specs.declared.access.Kind.{Kind}
@@ -36,7 +36,7 @@ pub record Hit (space page : ℕ) (q : Access) (ways : List (Option Way)) (hit :
   pub space_is : way.space ≡ space
   pub page_is : way.page ≡ page
   pub may : serves way q ≡ true
-  pub frame : hit.1 ≡ way.frame
+  pub frame : hit.1 ≡ way.frame % 2 ^ 44
 
 module _ (space page : ℕ) (q : Access) (ways : List (Option Way)) where
   hit_by : (i : ℕ) (hit : ℕ × ℕ) → found space page 0 ways ≡ Some i → served_by q i (get_or ways i None) ≡ Some hit → Hit space page q ways hit
@@ -46,10 +46,10 @@ module _ (space page : ℕ) (q : Access) (ways : List (Option Way)) where
       let way : Way = r.1.1.0 in
       let there : get_or ways i None ≡ Some way = ap (λ (n : ℕ). get_or ways n None) k ∙ r.1.1.1.0 in
       let speaks = and_parts _ _ r.1.1.1.1 in
-      let served_way : cond (serves way q) (Some (i, way.frame)) None ≡ Some hit = sym (ap (served_by q i) there) ∙ h in
+      let served_way : cond (serves way q) (Some (i, way.frame % 2 ^ 44)) None ≡ Some hit = sym (ap (served_by q i) there) ∙ h in
       ⊎_elim
       (λ (t : serves way q ≡ true).
-      let same : ◌≡◌ {A = ℕ × ℕ} (i, way.frame) hit = some_same (i, way.frame) hit (sym (cond-true (serves way q) (Some (i, way.frame)) None t) ∙ served_way) in
+      let same : ◌≡◌ {A = ℕ × ℕ} (i, way.frame % 2 ^ 44) hit = some_same (i, way.frame % 2 ^ 44) hit (sym (cond-true (serves way q) (Some (i, way.frame % 2 ^ 44)) None t) ∙ served_way) in
       record {
         way = way;
         there = ap (λ (x : ℕ × ℕ). get_or ways x.0 None) (sym same) ∙ there;
@@ -59,7 +59,7 @@ module _ (space page : ℕ) (q : Access) (ways : List (Option Way)) where
         frame = ap (λ (x : ℕ × ℕ). x.1) (sym same);
       })
       (λ (t : serves way q ≡ false).
-      absurd (none_not hit (sym (cond-false (serves way q) (Some (i, way.frame)) None t) ∙ served_way))) (cases_Bool (serves way q))
+      absurd (none_not hit (sym (cond-false (serves way q) (Some (i, way.frame % 2 ^ 44)) None t) ∙ served_way))) (cases_Bool (serves way q))
 
   served_by_is : (o : Option ℕ) (hit : ℕ × ℕ) → found space page 0 ways ≡ o → served_at q ways o ≡ Some hit → Hit space page q ways hit
   served_by_is None hit e h = absurd (none_not hit h)

@@ -4,7 +4,7 @@ use Rattle.std.proofs.lemmas.List.{length-set, get_or-set_same, get_or-set_other
 use Rattle.std.proofs.lemmas.Bool.{cases_Bool, cases_eq, cases_lt, cond-true, cond-false}
 use Rattle.debts.specs.declared.debt.Debt.{Debt}
 use Rattle.debts.specs.Debts.{open_debt}
-use Rattle.tlb.specs.Slots.{empty_in}
+use Rattle.tlb.specs.Slots.{empty_slot}
 
 pub none_not : {A : Type 0} (x : A) → ◌≡◌ {A = Option A} None (Some x) → ⊥
 none_not x e = let z : ◌≡◌ {A = ℕ} 0 1 = cc in omega arith
@@ -24,16 +24,16 @@ set_holds xs n x m y e =
     (λ (ne : m ≡ n → ⊥). inr (ne, sym (get_or-set_other xs n m x None ne) ∙ e)) (cases_eq m n)
 
 -- an empty slot that was found is empty
-pub empty_slot : {A : Type 0} (i : ℕ) (xs : List (Option A)) (n : ℕ) → empty_in i xs ≡ Some n → (k : ℕ) × ((n ≡ i + k) × ((get_or xs k None ≡ None) × (k < length xs)))
-empty_slot i [] n e = absurd (none_not n e)
-empty_slot i (None ∷ xs) n e = (0, (let q : i ≡ n = cc in omega arith, (refl, omega arith)))
-empty_slot i (Some x ∷ xs) n e =
-    let r = empty_slot (i + 1) xs n e in
+pub empty_there : {A : Type 0} (i : ℕ) (xs : List (Option A)) (n : ℕ) → empty_slot i xs ≡ Some n → (k : ℕ) × ((n ≡ i + k) × ((get_or xs k None ≡ None) × (k < length xs)))
+empty_there i [] n e = absurd (none_not n e)
+empty_there i (None ∷ xs) n e = (0, (let q : i ≡ n = cc in omega arith, (refl, omega arith)))
+empty_there i (Some x ∷ xs) n e =
+    let r = empty_there (i + 1) xs n e in
     (suc r.0, (omega (arith, r.1.0), (r.1.1.0, omega (arith, r.1.1.1))))
 
-pub empty_at : {A : Type 0} (xs : List (Option A)) (n : ℕ) → empty_in 0 xs ≡ Some n → (get_or xs n None ≡ None) × (n < length xs)
+pub empty_at : {A : Type 0} (xs : List (Option A)) (n : ℕ) → empty_slot 0 xs ≡ Some n → (get_or xs n None ≡ None) × (n < length xs)
 empty_at xs n e =
-    let r = empty_slot 0 xs n e in
+    let r = empty_there 0 xs n e in
     let q : n ≡ r.0 = omega (arith, r.1.0) in
     (ap (λ (k : ℕ). get_or xs k None) q ∙ r.1.1.0, omega (arith, r.1.1.1))
 
