@@ -1,7 +1,7 @@
 // Rows, debts and refusals as text.
 use debts::{Debt, Unsettled};
 use std::test::Fail;
-use sv39::Flags;
+use sv39::{Access, Flags, Kind, Mode};
 use tlb::{Row, Way};
 
 fn way(page: u64, frame: u64, w: bool) -> Way {
@@ -27,9 +27,24 @@ fn a_row_lists_its_held_ways(rt: HostRuntime) -> Result<(), Fail> {
     let text = format!(in rt.alloc(); "{row}")?;
     assert_eq!(rt;
         text.as_str(),
-        "way 3: space 0, page 0x1000, frame 5, rw-u a d\nway 15: space 0, page 0x2000, frame 6, r--u a -"
+        "way 3: space 0, page 0x1000, frame 5, rw-u a d\nway 15: space 0, page 0x2000, frame 17592186044422, r--u a -"
     );
     Ok(())
+}
+
+/// A way keeps the frame as it was given, and serves a frame of 44 bits.
+#[test]
+fn a_wide_frame_is_served_narrow(rt: HostRuntime) {
+    let mut row = Row::empty();
+    row.put(15, way(0x2000, (1 << 44) + 6, false));
+    let access = Access {
+        address: 0x2008,
+        kind: Kind::Load,
+        mode: Mode::User,
+        sum: false,
+        mxr: false,
+    };
+    assert_eq!(rt; row.try_way(0, 0x2000, &access), Some((15, 6)));
 }
 
 #[test]
