@@ -1,11 +1,10 @@
 -- What is taken, and what is left, in the pool as a value.
-use Rattle.std.proofs.Common.{◌≡◌, ℕ, zero, suc, ◌+◌, ◌-◌, ◌<◌, ◌≤◌, Bool, true, false, cond, ltb, List, [], ◌∷◌, length, get_or, set, Some, None, Option, sym, refl, ap, ◌∙◌, subst, ⊎_elim, arith}
+use Rattle.std.proofs.Common.{◌≡◌, ℕ, zero, suc, ◌+◌, ◌-◌, ◌<◌, ◌≤◌, true, false, cond, ltb, List, get_or, set, Some, None, sym, ap, ◌∙◌, subst, ⊎_elim, arith}
 use Rattle.std.proofs.lemmas.Bool.{cases_Bool, ltb-true, ltb-false, lt-ltb, le-ltb, cond-true, cond-false}
 use Rattle.frames.specs.declared.state.FrameState.{FrameState}
-use Rattle.frames.specs.declared.state.FrameState.TheVariants.{Free}
 use Rattle.frames.specs.Busy.{one}
 use Rattle.frames.specs.Frames.{Frames, stack, next_of, taken_of}
-use Rattle.frames.proofs.Soundness.{Sound, popped_sound, unused_sound}
+use Rattle.frames.proofs.Soundness.{Sound, popped_sound}
 use Rattle.frames.proofs.Stacks.{stack_pop, stack_none}
 use Rattle.frames.proofs.Finding.{found_some}
 

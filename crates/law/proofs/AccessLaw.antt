@@ -1,5 +1,5 @@
 -- Every access is lawful, and keeps what holds of every state.
-use Rattle.std.proofs.Common.{◌≡◌, ℕ, ◌+◌, ◌*◌, ◌/◌, ◌%◌, ◌^◌, ◌<◌, ◌≤◌, Bool, true, false, cond, ltb, ◌⊎◌, List, [], ◌∷◌, length, get_or, set, Some, None, Ok, Err, Option, Result, sym, refl, ap, ◌∙◌, subst, inl, inr, ⊎_elim, mod-eq_of_lt, arith}
+use Rattle.std.proofs.Common.{◌≡◌, ℕ, ◌+◌, ◌*◌, ◌/◌, ◌%◌, ◌^◌, ◌<◌, ◌≤◌, Bool, true, false, cond, ◌⊎◌, List, [], ◌∷◌, length, get_or, set, Some, None, Ok, Err, Option, Result, sym, refl, ap, ◌∙◌, subst, inl, inr, ⊎_elim, mod-eq_of_lt, arith}
 use Rattle.std.proofs.lemmas.Bool.{ltb-true}
 use Rattle.frames.specs.declared.state.FrameState.TheVariants as state
 use Rattle.frames.specs.Frames.{next}
@@ -24,20 +24,20 @@ use Rattle.machine.specs.declared.refusal.Cause.TheVariants.{Misaligned, Walk}
 use Rattle.machine.specs.declared.refusal.HartFault.{HartFault}
 use Rattle.machine.specs.declared.refusal.Refusal.{Refusal}
 use Rattle.machine.specs.declared.refusal.Refusal.TheVariants.{NoHart, InNoSpace, Fault}
-use Rattle.machine.specs.Accesses.{access_of, with_cells, stored, find_step, moved as movedOf, moved_by, access_in, access_step, fault_of}
+use Rattle.machine.specs.Accesses.{access_of, with_cells, stored, find_step, moved_by, access_in, access_step}
 use Rattle.machine.specs.Calls.{call_step, told_as}
 use Rattle.machine.specs.State.{State, is_hart, hart_of, row_of, root_of}
-use Rattle.law.specs.History.{Event, History, PutSince, SeenSince, covers, space_in, status_in, root_in}
+use Rattle.law.specs.History.{Event, History, PutSince, SeenSince, status_in, root_in}
 use Rattle.law.specs.Law.{asked, frame_of}
 use Rattle.law.specs.Law as law
 use Rattle.law.specs.Runs.{event_of}
 use Rattle.law.proofs.AccessStep.{View, off, hit, fault, fill, view, rows_good, page_is_page, index_of_page}
 use Rattle.law.proofs.Descents.{walk_reaches}
-use Rattle.law.proofs.Good.{Good, Gives, LeafHome, Late, WayGood, Quiet, later, moved, refused_quiet}
-use Rattle.law.proofs.Hits.{Hit, tried_had, serves_tells}
-use Rattle.law.proofs.Places.{Holder, in_leaf, low}
+use Rattle.law.proofs.Good.{Good, Gives, LeafHome, Late, WayGood, Quiet, later, moved}
+use Rattle.law.proofs.Hits.{tried_had, serves_tells}
+use Rattle.law.proofs.Places.{in_leaf, low}
 use Rattle.law.proofs.Pools.{state_at}
-use Rattle.law.proofs.Slots.{none_not, some_same, set_holds}
+use Rattle.law.proofs.Slots.{some_same, set_holds}
 use Rattle.law.proofs.TableSteps.{stored_tables, unplaced}
 
 -- a frame that an access may reach: mapped or owed

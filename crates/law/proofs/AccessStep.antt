@@ -1,12 +1,9 @@
 -- An access: where it comes to, and what it leaves.
-use Rattle.std.proofs.Common.{◌≡◌, ℕ, ◌+◌, ◌*◌, ◌/◌, ◌%◌, ◌^◌, ◌<◌, ◌≤◌, Bool, true, false, cond, eqb, ◌⊎◌, List, [], ◌∷◌, length, get_or, set, Some, None, Ok, Err, Option, Result, sym, refl, ap, ◌∙◌, subst, inl, inr, ⊎_elim, mod-lt, mod-eq_of_lt, arith, lit<}
+use Rattle.std.proofs.Common.{◌≡◌, ℕ, ◌%◌, ◌<◌, true, false, eqb, List, [], get_or, set, Some, None, Ok, Err, Option, Result, sym, refl, ap, ◌∙◌, subst, ⊎_elim, arith}
 use Rattle.std.proofs.lemmas.List.{get_or-set_same, get_or-set_other, length-set}
 use Rattle.std.proofs.lemmas.Bool.{cases_Bool, cases_eq, cond-true, cond-false, and_from, eq-eqb}
-use Rattle.debts.specs.declared.debt.Debt.{Debt}
-use Rattle.frames.specs.declared.state.FrameState.TheVariants as state
 use Rattle.sv39.specs.declared.access.Access.{Access}
-use Rattle.sv39.specs.Address.{canonical, index, page, page_number, doubleword_of}
-use Rattle.sv39.specs.Making.{leaf_flags}
+use Rattle.sv39.specs.Address.{canonical, index, page}
 use Rattle.tlb.specs.declared.way.Way.{Way}
 use Rattle.tlb.specs.Rows.{empty_in}
 use Rattle.tlb.specs.Trying.{served, tried}
@@ -15,22 +12,14 @@ use Rattle.walker.specs.declared.fault.WalkFault.{WalkFault}
 use Rattle.walker.specs.declared.walking.Translation.{Translation}
 use Rattle.walker.specs.Walk.{walked}
 use Rattle.walker.proofs.Pages.{number_of_page, index_same, canonical_same}
-use Rattle.walker.proofs.Serving.{leaf_serves}
 use Rattle.machine.specs.declared.access.By.TheVariants as by
-use Rattle.machine.specs.declared.access.Found.{Found}
-use Rattle.machine.specs.declared.refusal.Cause.{Cause}
 use Rattle.machine.specs.declared.refusal.Cause.TheVariants.{Misaligned, Walk}
 use Rattle.machine.specs.Accesses.{with_row, touched, slot_of, filled_by, root_in, found_by, find_step}
 use Rattle.machine.specs.Pages.{is_page}
 use Rattle.machine.specs.State.{State, row_of, root_of}
-use Rattle.law.specs.History.{Event, History, PutSince, SeenSince, covers}
-use Rattle.law.specs.History as history
-use Rattle.law.specs.Law.{frame_of}
-use Rattle.law.proofs.Descents.{Reaches, walk_reaches}
-use Rattle.law.proofs.Good.{Good, Gives, LeafHome, Late, WayGood}
-use Rattle.law.proofs.Hits.{Hit, served_hit, tried_had, serves_tells}
-use Rattle.law.proofs.Pools.{state_at}
-use Rattle.law.proofs.Slots.{none_not, some_same, set_holds}
+use Rattle.law.specs.History.{History}
+use Rattle.law.proofs.Good.{Good, WayGood}
+use Rattle.law.proofs.Hits.{Hit, served_hit}
 
 -- The ways of one hart change, to ways that are as every way is.
 pub rows_good : (H : History) (s : State) (g : Good H s) (hart : ℕ) (row : List (Option Way)) (last : List (Option ℕ)) → hart < s.count → ((i : ℕ) (way : Way) → get_or row i None ≡ Some way → WayGood H s.debts.slots g.at g.held hart way) → Good H (with_row s hart row last)

@@ -1,15 +1,15 @@
 -- protect and unmap keep what holds of every state.
-use Rattle.std.proofs.Common.{◌≡◌, ℕ, ◌+◌, ◌*◌, ◌/◌, ◌%◌, ◌^◌, ◌<◌, ◌≤◌, Bool, true, false, cond, ltb, ◌⊎◌, List, [], ◌∷◌, length, get_or, set, Some, None, Ok, Err, Option, Result, sym, refl, ap, ◌∙◌, subst, inl, inr, ⊎_elim, arith}
+use Rattle.std.proofs.Common.{◌≡◌, ℕ, ◌+◌, ◌*◌, ◌^◌, ◌<◌, Bool, true, false, ltb, ◌⊎◌, List, ◌∷◌, length, get_or, set, Some, None, Ok, Err, Option, Result, sym, refl, ap, ◌∙◌, subst, inl, inr, ⊎_elim, arith}
 use Rattle.std.proofs.lemmas.List.{get_or-set_same, get_or-set_other}
 use Rattle.std.proofs.lemmas.Bool.{cases_Bool, cases_eq, cond-true, cond-false}
 use Rattle.debts.specs.declared.debt.Debt.{Debt}
 use Rattle.debts.specs.Debts.{Debts, room, number_at, new_debt, opened_at}
 use Rattle.frames.specs.declared.state.FrameState.TheVariants as state
-use Rattle.frames.specs.Frames.{Frames, next, turned}
+use Rattle.frames.specs.Frames.{next, turned}
 use Rattle.sv39.specs.declared.entry.Entry.{Entry}
 use Rattle.sv39.specs.declared.entry.Rights.{Rights}
 use Rattle.sv39.specs.Address.{index}
-use Rattle.sv39.specs.Layout.{packed, bit}
+use Rattle.sv39.specs.Layout.{packed}
 use Rattle.sv39.specs.Making.{leaf_doubleword}
 use Rattle.tlb.specs.declared.way.Way.{Way}
 use Rattle.tlb.specs.Slots.{empty_slot}
@@ -18,18 +18,18 @@ use Rattle.machine.specs.declared.call.Call.TheVariants.{Protect, Unmap}
 use Rattle.machine.specs.declared.refusal.Refusal.{Refusal}
 use Rattle.machine.specs.declared.refusal.Refusal.TheVariants.{DebtsFull}
 use Rattle.machine.specs.Calls.{call_step, told_as}
-use Rattle.machine.specs.Pages.{is_page, with_frames, with_debts, reworked, protect_allowed, protect_due, protect_at, protect_by, unmap_allowed, unmap_at, unmap_by}
+use Rattle.machine.specs.Pages.{with_frames, with_debts, reworked, protect_allowed, protect_due, protect_at, protect_by, unmap_allowed, unmap_at, unmap_by}
 use Rattle.machine.specs.Rights.{valid, due}
 use Rattle.machine.specs.State.{State}
-use Rattle.law.specs.History.{Event, History, PutSince}
+use Rattle.law.specs.History.{History, PutSince}
 use Rattle.law.specs.Runs.{event_of}
 use Rattle.law.proofs.Allowing.{LeafTells, unmap_tells, protect_tells}
-use Rattle.law.proofs.Descents.{Finds, LeafAt, leaf_finds, index_below}
+use Rattle.law.proofs.Descents.{Finds, leaf_finds, index_below}
 use Rattle.law.proofs.Good.{Good, LeafHome, Late, WayGood, later, moved, refused_quiet}
 use Rattle.law.proofs.Marks.{zero_unmarked}
 use Rattle.law.proofs.Pages.{page_by_index}
-use Rattle.law.proofs.Places.{Place, low, Holder, nowhere, in_leaf, in_debt, Standing, at_one, at_same, at_other, leaf_not_debt, leaf_same, debt_same, low_same}
-use Rattle.law.proofs.Pools.{state_at, Moves, turn_moves, is_in_from, apart_by_tag}
+use Rattle.law.proofs.Places.{low, Holder, in_leaf, in_debt, at_one, at_same, at_other, leaf_not_debt, leaf_same, debt_same, low_same}
+use Rattle.law.proofs.Pools.{Moves, turn_moves, is_in_from, apart_by_tag}
 use Rattle.law.proofs.Slots.{empty_at, none_not, some_same, set_holds}
 use Rattle.law.proofs.TableSteps.{protected_tables, unmapped_tables}
 

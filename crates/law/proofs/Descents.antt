@@ -1,6 +1,6 @@
 -- From a space's root down to a page: how the walk goes, and what the calls find there.
-use Rattle.std.proofs.Common.{◌≡◌, ℕ, zero, suc, ◌+◌, ◌*◌, ◌/◌, ◌%◌, ◌^◌, ◌<◌, ◌≤◌, Bool, true, false, cond, ltb, ◌⊎◌, List, length, get_or, Some, None, Ok, Err, Option, Result, sym, refl, ap, ◌∙◌, subst, inl, inr, ⊎_elim, mod-lt, arith, lit<}
-use Rattle.std.proofs.lemmas.Bool.{cases_Bool, cond-true, cond-false}
+use Rattle.std.proofs.Common.{◌≡◌, ℕ, zero, suc, ◌+◌, ◌*◌, ◌/◌, ◌^◌, ◌<◌, ◌≤◌, true, false, List, get_or, Some, None, Ok, Err, Option, Result, sym, refl, ap, ◌∙◌, subst, inl, inr, ⊎_elim, mod-lt, arith, lit<}
+use Rattle.std.proofs.lemmas.Bool.{cases_Bool, cond-false}
 use Rattle.frames.specs.Frames.{Frames}
 use Rattle.sv39.specs.declared.access.Access.{Access}
 use Rattle.sv39.specs.declared.entry.Entry.{Entry}
@@ -8,7 +8,7 @@ use Rattle.sv39.specs.declared.entry.Rights.{Rights}
 use Rattle.sv39.specs.Address.{index, canonical, entry_of, frame_of}
 use Rattle.sv39.specs.Layout.{unpacked}
 use Rattle.sv39.specs.Making.{pointer_doubleword, leaf_doubleword, leaf_flags}
-use Rattle.tables.specs.Tables.{table_of, table_below_of, low_below, low_table_of, valid_at, leaf_in, leaf_of}
+use Rattle.tables.specs.Tables.{table_of, table_below_of, low_below, valid_at, leaf_in, leaf_of}
 use Rattle.walker.specs.declared.fault.Stop.{Stop}
 use Rattle.walker.specs.declared.fault.Stop.TheVariants.{Invalid, PointerAtZero}
 use Rattle.walker.specs.declared.fault.WalkFault.{WalkFault}
@@ -20,7 +20,7 @@ use Rattle.walker.proofs.Serving.{leaf_found}
 use Rattle.walker.proofs.Steps.{look_inside, found_below, found_not_canonical}
 use Rattle.machine.specs.Rights.{valid}
 use Rattle.law.proofs.Entries.{plain, unpacked_pointer, unpacked_leaf, zero_invalid, zero_no_table, zero_not_valid, pointer_leads, pointer_table, leaf_decided, leaf_no_pointer}
-use Rattle.law.proofs.Places.{Place, none, root, mid, low, Holder, in_leaf, Standing, Fit, Leads, Maps, Tables}
+use Rattle.law.proofs.Places.{Place, root, mid, low, Holder, in_leaf, Standing, Fit, Leads, Maps, Tables}
 use Rattle.law.proofs.TableSteps.{place_inside}
 use Rattle.law.proofs.Words.{word_at}
 

@@ -1,11 +1,11 @@
 -- What a table's words are to the walk and to the calls: 0, a pointer, a leaf.
-use Rattle.std.proofs.Common.{◌≡◌, ℕ, ◌+◌, ◌*◌, ◌^◌, ◌<◌, Bool, true, false, cond, not, ◌&&◌, ◌||◌, ltb, Some, None, Ok, Err, Option, Result, sym, refl, ap, ◌∙◌, arith, lit<}
-use Rattle.std.proofs.lemmas.Bool.{lt-ltb, cond-true}
+use Rattle.std.proofs.Common.{◌≡◌, ℕ, ◌^◌, ◌<◌, Bool, true, false, cond, not, ◌&&◌, ◌||◌, Some, None, Ok, Err, Result, sym, refl, ap, ◌∙◌, arith, lit<}
+use Rattle.std.proofs.lemmas.Bool.{lt-ltb}
 use Rattle.sv39.specs.declared.access.Access.{Access}
 use Rattle.sv39.specs.declared.entry.Entry.{Entry}
 use Rattle.sv39.specs.declared.entry.Flags.{Flags}
 use Rattle.sv39.specs.declared.entry.Rights.{Rights}
-use Rattle.sv39.specs.Layout.{unpacked, packed, packed_flags}
+use Rattle.sv39.specs.Layout.{unpacked}
 use Rattle.sv39.specs.Making.{pointer_doubleword, leaf_doubleword, pointer_flags, leaf_flags}
 use Rattle.sv39.proofs.Entries.{unpacked_is}
 use Rattle.tables.specs.Tables.{table_of}

@@ -1,12 +1,11 @@
 -- fence keeps what holds of every state.
-use Rattle.std.proofs.Common.{◌≡◌, ℕ, ◌<◌, ◌≤◌, Bool, true, false, cond, ◌&&◌, eqb, ltb, ◌⊎◌, List, [], ◌∷◌, map, length, get_or, set, Some, None, Ok, Err, Option, sym, refl, ap, ◌∙◌, subst, inl, inr, ⊎_elim, arith}
+use Rattle.std.proofs.Common.{◌≡◌, ℕ, ◌<◌, Bool, true, false, cond, ◌&&◌, eqb, ◌⊎◌, List, [], ◌∷◌, map, get_or, set, Some, None, Ok, Err, Option, sym, refl, ap, ◌∙◌, subst, inl, inr, ⊎_elim, arith}
 use Rattle.std.proofs.lemmas.List.{get_or-set_same, get_or-set_other, length-set}
 use Rattle.std.proofs.lemmas.Bool.{both_ways, cases_Bool, cases_eq, cond-true, cond-false, ltb-true, ne_eqb, and_left, and_right}
 use Rattle.debts.specs.declared.debt.Debt.{Debt}
 use Rattle.debts.specs.Debts.{marked_by, with_mark}
 use Rattle.debts.specs.Debts as ledger
 use Rattle.frames.specs.Frames.{next}
-use Rattle.sv39.specs.Layout.{bit}
 use Rattle.tlb.specs.declared.way.Way.{Way}
 use Rattle.tlb.specs.Rows.{matches, covers, spared, fenced}
 use Rattle.machine.specs.declared.call.Answer.TheVariants as answer
@@ -17,9 +16,8 @@ use Rattle.machine.specs.Harts.{fence_page, stands_in, fence_by}
 use Rattle.machine.specs.State.{State, is_hart, row_of}
 use Rattle.law.specs.History.{Event, History, covers_page, PutSince}
 use Rattle.law.specs.Runs.{event_of}
-use Rattle.law.proofs.Good.{Good, LeafHome, Late, WayGood, later, refused_quiet}
+use Rattle.law.proofs.Good.{Good, Late, later, refused_quiet}
 use Rattle.law.proofs.Marks.{mark_other}
-use Rattle.law.proofs.Places.{Place, Holder}
 use Rattle.law.proofs.Slots.{none_not, some_same, map_holds}
 
 -- what a fence makes of a slot

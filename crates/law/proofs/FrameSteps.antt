@@ -1,30 +1,24 @@
 -- grant, back and space keep what holds of every state.
-use Rattle.std.proofs.Common.{◌≡◌, ℕ, ◌+◌, ◌*◌, ◌<◌, ◌≤◌, Bool, true, false, cond, eqb, ◌⊎◌, List, [], ◌∷◌, length, get_or, set, Some, None, Ok, Err, Option, Result, sym, refl, ap, ◌∙◌, subst, inl, inr, ⊎_elim, arith}
+use Rattle.std.proofs.Common.{◌≡◌, ℕ, Bool, true, false, cond, ◌∷◌, get_or, set, Some, None, Ok, Err, Option, sym, refl, ap, ◌∙◌, subst, inl, inr, ⊎_elim, arith}
 use Rattle.std.proofs.lemmas.List.{get_or-set_same, get_or-set_other}
-use Rattle.std.proofs.lemmas.Bool.{cases_Bool, cases_eq, cond-true, cond-false, eq-eqb, ne_eqb}
-use Rattle.debts.specs.declared.debt.Debt.{Debt}
+use Rattle.std.proofs.lemmas.Bool.{cases_eq, cond-true, eq-eqb, ne_eqb}
 use Rattle.frames.specs.declared.state.FrameState.TheVariants as state
-use Rattle.frames.specs.Busy.{tag}
-use Rattle.frames.specs.Frames.{Frames, next, taken, is_in, freed, released}
+use Rattle.frames.specs.Frames.{Frames, next, taken, is_in, released}
 use Rattle.sv39.specs.Address.{index}
 use Rattle.tables.specs.Tables.{cleared}
-use Rattle.tlb.specs.declared.way.Way.{Way}
 use Rattle.tlb.specs.Slots.{empty_slot}
-use Rattle.machine.specs.declared.call.Answer.{Answer}
 use Rattle.machine.specs.declared.call.Answer.TheVariants as answer
-use Rattle.machine.specs.declared.call.Call.{Call}
 use Rattle.machine.specs.declared.call.Call.TheVariants.{Space, Grant, Back}
-use Rattle.machine.specs.declared.refusal.Refusal.{Refusal}
 use Rattle.machine.specs.declared.refusal.Refusal.TheVariants.{SpacesFull, NoFrame, NotHeld}
 use Rattle.machine.specs.Calls.{call_step, told_as}
-use Rattle.machine.specs.Pages.{grant_by, back_step, space_by, with_frames}
-use Rattle.machine.specs.State.{State, root_of}
-use Rattle.law.specs.History.{Event, History, or_else, root_in, is_same, SeenSince}
+use Rattle.machine.specs.Pages.{grant_by, space_by, with_frames}
+use Rattle.machine.specs.State.{State}
+use Rattle.law.specs.History.{History, or_else, root_in}
 use Rattle.law.specs.Runs.{event_of}
-use Rattle.law.proofs.Good.{Good, Gives, LeafHome, WayGood, Quiet, later, moved, refused_quiet}
-use Rattle.law.proofs.Places.{Place, root, Holder, Standing, at_one, at_same, at_other}
-use Rattle.law.proofs.Pools.{state_at, Moves, take_moves, free_moves, is_in_tells, apart_by_tag}
-use Rattle.law.proofs.Slots.{empty_at, none_not, some_same}
+use Rattle.law.proofs.Good.{Good, later, moved, refused_quiet}
+use Rattle.law.proofs.Places.{Place, root, Standing, at_one, at_other}
+use Rattle.law.proofs.Pools.{Moves, take_moves, free_moves, apart_by_tag}
+use Rattle.law.proofs.Slots.{empty_at, none_not}
 use Rattle.law.proofs.TableSteps.{granted_tables, backed_tables, space_tables, unplaced}
 
 module _ (H : History) (s : State) (g : Good H s) (choice : ℕ → ℕ) where

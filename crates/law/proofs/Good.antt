@@ -1,5 +1,5 @@
 -- What holds of every state that the calls reach, with the history that led to it.
-use Rattle.std.proofs.Common.{◌≡◌, ℕ, ◌+◌, ◌*◌, ◌^◌, ◌<◌, ◌≤◌, Bool, true, false, cond, ◌⊎◌, List, [], ◌∷◌, length, get_or, Some, None, Ok, Err, Option, Result, sym, refl, ap, ◌∙◌, subst, inl, inr, ⊎_elim}
+use Rattle.std.proofs.Common.{◌≡◌, ℕ, ◌+◌, ◌*◌, ◌<◌, ◌≤◌, Bool, true, false, ◌⊎◌, List, ◌∷◌, length, get_or, Some, None, Ok, Err, Option, sym, ap, ◌∙◌, subst, inl, inr, ⊎_elim}
 use Rattle.debts.specs.declared.debt.Debt.{Debt}
 use Rattle.frames.specs.Frames.{Frames}
 use Rattle.sv39.specs.declared.access.Access.{Access}
@@ -9,12 +9,11 @@ use Rattle.tlb.specs.declared.way.Way.{Way}
 use Rattle.tlb.specs.Ways.{way_of}
 use Rattle.walker.specs.declared.walking.Translation.{Translation}
 use Rattle.walker.specs.Walk.{walked}
-use Rattle.machine.specs.declared.call.Answer.{Answer}
 use Rattle.machine.specs.declared.refusal.Refusal.{Refusal}
 use Rattle.machine.specs.Pages.{is_page}
 use Rattle.machine.specs.State.{State, root_of, hart_of, row_of}
-use Rattle.law.specs.History.{Event, History, accepted, puts, releases, PutSince, enters_by, sets_by, or_else, space_in, last_set, status_by, status_in, root_of_made, root_in, covers, SeenSince}
-use Rattle.law.proofs.Places.{Place, low, Holder, nowhere, in_leaf, in_debt, Standing, Tables}
+use Rattle.law.specs.History.{Event, History, accepted, releases, PutSince, enters_by, sets_by, or_else, space_in, last_set, status_by, status_in, root_of_made, root_in, covers, SeenSince}
+use Rattle.law.proofs.Places.{Place, low, Holder, in_leaf, in_debt, Standing, Tables}
 use Rattle.law.proofs.Pools.{Sound}
 
 -- a frame stands in the leaf of a page of a space

@@ -1,6 +1,6 @@
 -- The tables on the way to a page, taken where they are missing, keep what always holds of tables.
-use Rattle.std.proofs.Common.{◌≡◌, ℕ, ◌+◌, ◌-◌, ◌*◌, ◌<◌, ◌≤◌, Bool, true, false, cond, ltb, ◌⊎◌, List, [], ◌∷◌, length, get_or, set, Some, None, Option, sym, refl, ap, ◌∙◌, subst, inl, inr, ⊎_elim, arith}
-use Rattle.std.proofs.lemmas.Bool.{cases_lt, cases_eq, lt-ltb, le-ltb, cond-true, cond-false}
+use Rattle.std.proofs.Common.{◌≡◌, ℕ, ◌+◌, ◌-◌, ◌*◌, ◌<◌, ◌≤◌, ltb, List, [], ◌∷◌, length, get_or, set, Some, None, Option, sym, refl, ap, ◌∙◌, subst, inl, inr, ⊎_elim, arith}
+use Rattle.std.proofs.lemmas.Bool.{cases_lt, lt-ltb, le-ltb, cond-true, cond-false}
 use Rattle.frames.specs.declared.state.FrameState.{FrameState}
 use Rattle.frames.specs.declared.state.FrameState.TheVariants.{Free, Table}
 use Rattle.frames.specs.Busy.{tag}
@@ -11,7 +11,7 @@ use Rattle.tables.specs.Growth.{Growth, grown, grown_by, grown_mid, grown_low}
 use Rattle.tables.specs.Tables.{cleared, missing, missing_mid, missing_low}
 use Rattle.law.proofs.Descents.{Descent, no_mid, no_low, comes, descent, index_below, table_none, table_some}
 use Rattle.law.proofs.Places.{Place, root, mid, low, Holder, Standing, child, Fit, Leads, Tables, at_one, at_same, at_other}
-use Rattle.law.proofs.Pools.{state_at, Sound, Moves, take_moves}
+use Rattle.law.proofs.Pools.{state_at, Sound, take_moves}
 use Rattle.law.proofs.TableSteps.{grown_tables, unplaced}
 use Rattle.law.proofs.Words.{word_at}
 

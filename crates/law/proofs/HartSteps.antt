@@ -1,10 +1,9 @@
 -- enter and status keep what holds of every state.
-use Rattle.std.proofs.Common.{◌≡◌, ℕ, ◌<◌, ◌≤◌, Bool, true, false, cond, eqb, ◌⊎◌, List, [], ◌∷◌, length, get_or, set, Some, None, Ok, Err, Option, Result, sym, refl, ap, ◌∙◌, subst, inl, inr, ⊎_elim, arith}
+use Rattle.std.proofs.Common.{◌≡◌, ℕ, ◌<◌, ◌≤◌, Bool, true, false, cond, ◌∷◌, length, set, Some, None, Ok, Err, Option, Result, sym, refl, ap, ◌∙◌, inr, ⊎_elim, arith}
 use Rattle.std.proofs.lemmas.List.{get_or-set_same, get_or-set_other, length-set}
 use Rattle.std.proofs.lemmas.Bool.{cases_eq, ltb-true, eq-eqb, ne_eqb}
 use Rattle.frames.specs.Frames.{next}
 use Rattle.machine.specs.declared.call.Answer.TheVariants as answer
-use Rattle.machine.specs.declared.call.Call.{Call}
 use Rattle.machine.specs.declared.call.Call.TheVariants.{Enter, Status}
 use Rattle.machine.specs.declared.hart.Hart.{Hart}
 use Rattle.machine.specs.declared.refusal.Refusal.{Refusal}
@@ -12,9 +11,9 @@ use Rattle.machine.specs.declared.refusal.Refusal.TheVariants.{NoHart, NoSpace}
 use Rattle.machine.specs.Calls.{call_step, told_as}
 use Rattle.machine.specs.Harts.{with_hart, enter_by}
 use Rattle.machine.specs.State.{State, is_hart, hart_of, root_of, outside}
-use Rattle.law.specs.History.{Event, History, or_else, space_in, status_by, status_in, last_set}
+use Rattle.law.specs.History.{History, or_else, space_in, status_by, status_in, last_set}
 use Rattle.law.specs.Runs.{event_of}
-use Rattle.law.proofs.Good.{Good, WayGood, later, refused_quiet}
+use Rattle.law.proofs.Good.{Good, later, refused_quiet}
 use Rattle.law.proofs.Slots.{some_same}
 
 -- A hart is set otherwise, by an event that is about that hart alone.

@@ -1,5 +1,5 @@
 -- Every history that the calls can make is lawful.
-use Rattle.std.proofs.Common.{◌≡◌, ℕ, zero, suc, ◌+◌, ◌*◌, ◌/◌, ◌<◌, ◌≤◌, min, max, ◌⊎◌, List, [], ◌∷◌, length, get_or, replicate, Some, None, Option, sym, refl, ap, ◌∙◌, subst, inl, inr, ⊎_elim, arith}
+use Rattle.std.proofs.Common.{◌≡◌, ℕ, zero, suc, List, [], ◌∷◌, get_or, replicate, None, Option, sym, refl, ap, ◌∙◌, arith}
 use lib.ListN.{length-replicate}
 use Rattle.frames.specs.declared.state.FrameState.TheVariants.{Free}
 use Rattle.frames.proofs.Counting.{all_free}
@@ -10,7 +10,7 @@ use Rattle.machine.specs.declared.call.Call.TheVariants.{Space, Grant, Back, Map
 use Rattle.machine.specs.Calls.{call_step}
 use Rattle.machine.specs.declared.hart.Hart.{Hart}
 use Rattle.machine.specs.State.{State, fresh, outside}
-use Rattle.law.specs.History.{Event, History}
+use Rattle.law.specs.History.{History}
 use Rattle.law.specs.Law.{EventLaw, Law}
 use Rattle.law.specs.Runs.{Run, start, step, event_of, EveryHistoryIsLawful}
 use Rattle.law.proofs.AccessLaw.{access_good, access_law}

@@ -1,14 +1,12 @@
 -- map keeps what holds of every state.
-use Rattle.std.proofs.Common.{◌≡◌, ℕ, ◌+◌, ◌*◌, ◌<◌, ◌≤◌, Bool, true, false, cond, ◌&&◌, eqb, ◌⊎◌, List, [], ◌∷◌, length, get_or, set, Some, None, Ok, Err, Option, Result, sym, refl, ap, ◌∙◌, subst, inl, inr, ⊎_elim, arith}
+use Rattle.std.proofs.Common.{◌≡◌, ℕ, ◌+◌, ◌*◌, ◌<◌, true, ◌&&◌, eqb, ◌∷◌, set, Ok, Err, Result, sym, refl, ap, ◌∙◌, subst, inl, inr, ⊎_elim, arith}
 use Rattle.std.proofs.lemmas.Bool.{cases_eq, eq-eqb, and_from}
-use Rattle.debts.specs.declared.debt.Debt.{Debt}
 use Rattle.frames.specs.declared.state.FrameState.TheVariants as state
 use Rattle.frames.specs.Frames.{Frames, next, turned}
 use Rattle.sv39.specs.declared.entry.Rights.{Rights}
 use Rattle.sv39.specs.Address.{index}
 use Rattle.sv39.specs.Making.{leaf_doubleword}
 use Rattle.tables.specs.Growth.{grown_mid, grown_low}
-use Rattle.tlb.specs.declared.way.Way.{Way}
 use Rattle.machine.specs.declared.call.Answer.TheVariants as answer
 use Rattle.machine.specs.declared.call.Call.TheVariants.{Map}
 use Rattle.machine.specs.declared.refusal.Refusal.{Refusal}
@@ -18,12 +16,12 @@ use Rattle.machine.specs.Rights.{valid}
 use Rattle.machine.specs.State.{State}
 use Rattle.law.specs.History.{Event, History, PutSince}
 use Rattle.law.specs.Runs.{event_of}
-use Rattle.law.proofs.Allowing.{MapTells, map_tells}
+use Rattle.law.proofs.Allowing.{map_tells}
 use Rattle.law.proofs.Descents.{index_below}
-use Rattle.law.proofs.Good.{Good, LeafHome, Late, WayGood, later, moved, refused_quiet}
+use Rattle.law.proofs.Good.{Good, later, moved, refused_quiet}
 use Rattle.law.proofs.Growths.{both_grew}
 use Rattle.law.proofs.Pages.{page_by_index}
-use Rattle.law.proofs.Places.{Place, low, Holder, nowhere, in_leaf, in_debt, Standing, at_one, at_same, at_other, nowhere_not_leaf, nowhere_not_debt, leaf_not_debt, leaf_same, low_same}
+use Rattle.law.proofs.Places.{low, Holder, nowhere, in_leaf, in_debt, Standing, at_one, at_same, at_other, nowhere_not_leaf, nowhere_not_debt, leaf_not_debt, leaf_same, low_same}
 use Rattle.law.proofs.Pools.{state_at, Moves, turn_moves, is_in_tells, is_in_from, apart_by_tag}
 use Rattle.law.proofs.TableSteps.{mapped_tables, unheld}
 

@@ -1,7 +1,7 @@
 -- A page's address is told by its indexes.
-use Rattle.std.proofs.Common.{◌≡◌, ℕ, ◌+◌, ◌-◌, ◌*◌, ◌/◌, ◌%◌, ◌^◌, ◌<◌, Bool, true, false, cond, eqb, sym, refl, ap, ◌∙◌, arith}
+use Rattle.std.proofs.Common.{◌≡◌, ℕ, ◌-◌, ◌/◌, ◌%◌, ◌^◌, Bool, true, cond, eqb, sym, ap, ◌∙◌, arith}
 use Rattle.std.proofs.lemmas.Bool.{and_parts, eqb-true}
-use Rattle.sv39.specs.Address.{canonical, index, page}
+use Rattle.sv39.specs.Address.{canonical, index}
 use Rattle.sv39.specs.Layout.{bit}
 use Rattle.machine.specs.Pages.{is_page}
 

@@ -1,9 +1,8 @@
 -- settle keeps what holds of every state.
-use Rattle.std.proofs.Common.{◌≡◌, ℕ, ◌+◌, ◌*◌, ◌<◌, ◌≤◌, Bool, true, false, cond, ◌⊎◌, List, [], ◌∷◌, length, get_or, set, Some, None, Ok, Err, Option, Result, sym, refl, ap, ◌∙◌, subst, inl, inr, ⊎_elim, arith}
+use Rattle.std.proofs.Common.{◌≡◌, ℕ, ◌<◌, ◌≤◌, List, ◌∷◌, get_or, set, Some, None, Ok, Option, sym, refl, ap, ◌∙◌, subst, inl, inr, ⊎_elim, arith}
 use Rattle.std.proofs.lemmas.List.{get_or-set_other}
 use Rattle.std.proofs.lemmas.Bool.{both_ways, cases_eq, cases_lt, ne_eqb}
 use Rattle.debts.specs.declared.debt.Debt.{Debt}
-use Rattle.debts.specs.declared.settling.Unsettled.TheVariants as debts
 use Rattle.debts.specs.Debts.{Debts, open_debt, lowest_unmarked, settle_at, closed_at, closed_by, settled}
 use Rattle.debts.specs.Debts as ledger
 use Rattle.frames.specs.declared.state.FrameState.TheVariants as state
@@ -17,12 +16,12 @@ use Rattle.machine.specs.declared.refusal.Refusal.TheVariants.{NotOpen, Unmarked
 use Rattle.machine.specs.Calls.{call_step, told_as}
 use Rattle.machine.specs.Harts.{settle_by, with_settled}
 use Rattle.machine.specs.State.{State, row_of}
-use Rattle.law.specs.History.{Event, History, PutSince, releases}
+use Rattle.law.specs.History.{Event, History}
 use Rattle.law.specs.Runs.{event_of}
-use Rattle.law.proofs.Good.{Good, LeafHome, Late, WayGood, later, refused_quiet}
+use Rattle.law.proofs.Good.{Good, LeafHome, Late, later, refused_quiet}
 use Rattle.law.proofs.Marks.{all_marked}
-use Rattle.law.proofs.Places.{Place, Holder, nowhere, in_leaf, in_debt, at_one, at_same, at_other, nowhere_not_leaf, nowhere_not_debt, leaf_not_debt, debt_same}
-use Rattle.law.proofs.Pools.{state_at, Moves, free_moves, is_in_from, apart_by_tag}
+use Rattle.law.proofs.Places.{Holder, nowhere, in_leaf, in_debt, at_one, at_same, at_other, nowhere_not_leaf, nowhere_not_debt, leaf_not_debt, debt_same}
+use Rattle.law.proofs.Pools.{Moves, free_moves, is_in_from, apart_by_tag}
 use Rattle.law.proofs.Slots.{none_not, some_same, set_holds, open_at}
 use Rattle.law.proofs.TableSteps.{released_tables}
 

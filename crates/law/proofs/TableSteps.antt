@@ -10,7 +10,7 @@ use Rattle.sv39.specs.declared.entry.Rights.{Rights}
 use Rattle.sv39.specs.Making.{pointer_doubleword, leaf_doubleword}
 use Rattle.tables.specs.Tables.{cleared}
 use Rattle.machine.specs.Rights.{valid}
-use Rattle.law.proofs.Places.{Place, none, root, mid, low, Holder, nowhere, in_leaf, in_debt, Standing, child, Fit, Tables, at_one, at_same, at_other, none_unless, zero_fits, fit_kept, nowhere_not_leaf, nowhere_not_debt, leaf_not_debt, leaf_same, debt_same}
+use Rattle.law.proofs.Places.{Place, none, root, mid, low, Holder, nowhere, in_leaf, in_debt, Standing, child, Fit, Tables, at_one, at_same, at_other, none_unless, zero_fits, fit_kept, nowhere_not_leaf, nowhere_not_debt, leaf_not_debt, leaf_same}
 use Rattle.law.proofs.Pools.{state_at, Moves}
 use Rattle.law.proofs.Words.{word_at, word_same, word_other, length_cleared, cleared_zero, cleared_other}
 

@@ -1,5 +1,5 @@
 -- The law over histories: what holds of every access, whatever was called before it.
-use Rattle.std.specs.Prelude.{◌≡◌, ℕ, Bool, List, [], ◌∷◌, Some, None, Ok, Err, Option, Result}
+use Rattle.std.specs.Prelude.{◌≡◌, ℕ, Bool, [], ◌∷◌, Some, None, Ok, Err, Option, Result}
 use Rattle.sv39.specs.declared.access.Access.{Access}
 use Rattle.sv39.specs.Address.{page}
 use Rattle.walker.specs.declared.fault.WalkFault.{WalkFault}
@@ -7,13 +7,11 @@ use Rattle.walker.specs.declared.walking.Translation.{Translation}
 use Rattle.walker.specs.Walk.{walked}
 use Rattle.machine.specs.declared.access.Reached.{Reached}
 use Rattle.machine.specs.declared.access.Request.{Request}
-use Rattle.machine.specs.declared.call.Answer.{Answer}
 use Rattle.machine.specs.declared.call.Answer.TheVariants as answer
 use Rattle.machine.specs.declared.call.Call.{Call}
 use Rattle.machine.specs.declared.call.Call.TheVariants.{Space, Grant, Back, Map, Protect, Unmap, Enter, Status, Access as Accesses, Fence, Settle}
 use Rattle.machine.specs.declared.refusal.HartFault.{HartFault}
 use Rattle.machine.specs.declared.refusal.Cause.TheVariants.{Walk}
-use Rattle.machine.specs.declared.refusal.Refusal.{Refusal}
 use Rattle.machine.specs.declared.refusal.Refusal.TheVariants.{Fault}
 use Rattle.machine.specs.Accesses.{kind_of}
 use Rattle.law.specs.History.{Event, History, PutSince, SeenSince, space_in, status_in, root_in}

@@ -1,5 +1,5 @@
 -- Runs: the histories that the calls can make from a state, with the state that they come to.
-use Rattle.std.specs.Prelude.{◌≡◌, ℕ, ◌<◌, List, [], ◌∷◌, Some, None, Option, ◌≢◌, slice_index_or}
+use Rattle.std.specs.Prelude.{ℕ, ◌<◌, List, [], ◌∷◌, Some, None, Option, ◌≢◌, slice_index_or}
 use Rattle.frames.specs.Frames.{next}
 use Rattle.machine.specs.declared.call.Call.{Call}
 use Rattle.machine.specs.Calls.{call_step}

@@ -1,8 +1,8 @@
 -- What a read or a write of an interleaved memory is on the side that it falls to.
-use Rattle.std.proofs.Common.{◌≡◌, ℕ, ◌+◌, ◌*◌, ◌/◌, ◌%◌, ◌^◌, ◌<◌, ◌≤◌, Bool, true, false, cond, not, ◌&&◌, eqb, ltb, List, length, get_or, set, Ok, sym, refl, ap, ◌∙◌, subst, arith}
+use Rattle.std.proofs.Common.{◌≡◌, ℕ, ◌+◌, ◌*◌, ◌/◌, ◌%◌, ◌^◌, ◌<◌, ◌≤◌, not, List, length, get_or, set, Ok, sym, ap, ◌∙◌, arith}
 use Rattle.std.proofs.lemmas.Bool.{lt-ltb, le-ltb, eq-eqb, ne_eqb, cond-true, cond-false, and_from, and_left, and_right}
 use Rattle.memory.specs.Cells.{read_of, write_of}
-use Rattle.memory.specs.Interleave.{woven, even, first_after, second_after}
+use Rattle.memory.specs.Interleave.{woven, first_after, second_after}
 use Rattle.memory.proofs.ByTurns.{below, woven_even, woven_odd, set_woven_even, set_woven_odd}
 use Rattle.memory.proofs.Refusals.{read_inside, write_inside}
 

@@ -1,5 +1,5 @@
 -- Bytes in blocks of 512: 63 doublewords and then the block's check, all little-endian.
-use Rattle.std.specs.Prelude.{ℕ, zero, suc, ◌+◌, ◌*◌, ◌/◌, ◌%◌, ◌^◌, Bool, cond, ◌&&◌, List, [], ◌∷◌, ◌++◌, map, length, take, drop, Some, None, Ok, Err, Option, Result, ◌==◌, bit_or, bit_xor, nat_lt, slice_index}
+use Rattle.std.specs.Prelude.{ℕ, zero, suc, ◌+◌, ◌*◌, ◌/◌, ◌%◌, ◌^◌, Bool, cond, List, [], ◌∷◌, ◌++◌, map, length, take, drop, Some, None, Ok, Err, Option, Result, ◌==◌, bit_or, bit_xor, nat_lt, slice_index}
 use Rattle.std.specs.List.{range_with_len}
 use Rattle.memory.specs.declared.blocks.Damage.{Damage}
 use Rattle.memory.specs.declared.blocks.Damage.TheVariants.{NotWhole, WrongCheck}

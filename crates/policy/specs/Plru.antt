@@ -1,5 +1,5 @@
 -- Tree-PLRU: a tree for each hart.
-use Rattle.std.specs.Prelude.{◌≡◌, ℕ, ◌≤◌, Bool, false, cond, ◌&&◌, List, replicate, Some, None, Option, ◌==◌, slice_index_or, refl}
+use Rattle.std.specs.Prelude.{◌≡◌, ℕ, Bool, false, cond, ◌&&◌, List, replicate, Some, None, Option, ◌==◌, slice_index_or, refl}
 use Rattle.std.proofs.Common.{arith}
 use Rattle.policy.specs.declared.tree.Tree.{Tree}
 use Rattle.policy.specs.declared.plru.TreePlru.{TreePlru}

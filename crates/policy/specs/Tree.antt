@@ -1,6 +1,6 @@
 -- The tree of Tree-PLRU: nodes 1 to 15 hold a bit; the children of n are 2n (bit clear) and 2n + 1 (bit set); way w is
 -- leaf 16 + w.
-use Rattle.std.specs.Prelude.{ℕ, ◌+◌, ◌-◌, ◌*◌, ◌/◌, ◌%◌, Bool, false, cond, List, set, ◌==◌, slice_index_or, slice_set}
+use Rattle.std.specs.Prelude.{ℕ, ◌+◌, ◌-◌, ◌*◌, ◌/◌, ◌%◌, Bool, false, cond, List, ◌==◌, slice_index_or, slice_set}
 
 -- the child that a node's bit names
 abbrev pub child_of : List Bool → ℕ → ℕ

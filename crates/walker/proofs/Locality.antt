@@ -1,5 +1,5 @@
 -- A walk is decided by the entries that it reads, at most three.
-use Rattle.std.proofs.Common.{◌≡◌, ℕ, zero, suc, ◌+◌, ◌^◌, ◌<◌, ◌≤◌, Bool, true, false, cond, ltb, List, [], ◌∷◌, length, get_or, Some, None, Ok, Err, Result, sym, refl, ap, ◌∙◌, arith}
+use Rattle.std.proofs.Common.{◌≡◌, ℕ, zero, suc, ◌+◌, ◌^◌, ◌<◌, ◌≤◌, Bool, true, false, cond, ltb, List, [], ◌∷◌, length, get_or, Some, Ok, Err, Result, refl, ap, ◌∙◌, arith}
 use Rattle.memory.specs.Cells.{beyond}
 use Rattle.sv39.specs.declared.access.Access.{Access}
 use Rattle.walker.specs.declared.fault.Stop.{Stop}
@@ -11,7 +11,7 @@ use Rattle.walker.specs.declared.walking.Step.TheVariants.{Pointer, Leaf}
 use Rattle.walker.specs.declared.walking.Translation.{Translation}
 use Rattle.sv39.specs.Address.{canonical, entry_of, doubleword_of}
 use Rattle.sv39.specs.Layout.{unpacked}
-use Rattle.walker.specs.Laws.{below, read_from, entries_read, named, last_of, Agree, Reads, ReadsFew}
+use Rattle.walker.specs.Laws.{below, read_from, entries_read, named, last_of, Agree, ReadsFew}
 use Rattle.walker.specs.Walk.{decided, look_of, stopped, onward, walk_from, found, last_step, walked}
 
 module _ (cells others : List ℕ) (same_length : length others ≡ length cells) (q : Access) where

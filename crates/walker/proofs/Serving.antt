@@ -1,18 +1,18 @@
 -- A leaf that a walk found serves every other access to the page that its flags let pass.
-use Rattle.std.proofs.Common.{◌≡◌, ℕ, zero, suc, ◌^◌, ◌<◌, Bool, true, false, cond, not, ◌&&◌, ltb, List, length, get_or, Ok, Err, Result, sym, refl, ap, ◌∙◌, subst, arith}
-use Rattle.std.proofs.lemmas.Bool.{cond-true, cond-false}
+use Rattle.std.proofs.Common.{◌≡◌, ℕ, zero, suc, ◌^◌, Bool, true, false, cond, not, ◌&&◌, ltb, List, length, get_or, Ok, Err, Result, sym, refl, ap, ◌∙◌, arith}
+use Rattle.std.proofs.lemmas.Bool.{cond-false}
 use Rattle.memory.specs.Cells.{beyond}
 use Rattle.sv39.specs.declared.access.Access.{Access}
 use Rattle.sv39.specs.declared.entry.Entry.{Entry}
 use Rattle.sv39.specs.declared.entry.Flags.{Flags}
 use Rattle.walker.specs.declared.fault.Stop.{Stop}
-use Rattle.walker.specs.declared.fault.Stop.TheVariants.{EntryBeyond, Invalid, WriteOnly, PointerAtZero, Rights, Misaligned, Marks, FrameBeyond}
+use Rattle.walker.specs.declared.fault.Stop.TheVariants.{EntryBeyond, Invalid, WriteOnly, PointerAtZero, Rights, Misaligned, Marks}
 use Rattle.walker.specs.declared.fault.WalkFault.{WalkFault}
 use Rattle.walker.specs.declared.fault.WalkFault.TheVariants.{RootTooWide, NotCanonical}
 use Rattle.walker.specs.declared.walking.Step.{Step}
 use Rattle.walker.specs.declared.walking.Step.TheVariants.{Pointer, Leaf}
 use Rattle.walker.specs.declared.walking.Translation.{Translation}
-use Rattle.sv39.specs.Address.{canonical, page, page_number, entry_of, frame_of, doubleword_of}
+use Rattle.sv39.specs.Address.{canonical, page_number, entry_of, doubleword_of}
 use Rattle.walker.specs.House.{pointer, pointer_unseen, seen}
 use Rattle.sv39.specs.Layout.{unpacked}
 use Rattle.walker.specs.Laws.{LeafServes}

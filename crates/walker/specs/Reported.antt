@@ -1,5 +1,5 @@
 -- What each fault of a walk tells.
-use Rattle.std.specs.Prelude.{ℕ, Some, None, Option}
+use Rattle.std.specs.Prelude.{ℕ, Some, None}
 use Rattle.memory.specs.declared.beyond.Beyond.{Beyond}
 use Rattle.sv39.specs.declared.access.Kind.{Kind}
 use Rattle.walker.specs.declared.fault.Stop.{Stop}

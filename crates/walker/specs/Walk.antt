@@ -3,7 +3,6 @@ use Rattle.std.specs.Prelude.{ℕ, zero, suc, ◌*◌, ◌%◌, ◌^◌, ◌<◌
 use Rattle.memory.specs.Cells.{beyond}
 use Rattle.sv39.specs.declared.access.Access.{Access}
 use Rattle.sv39.specs.declared.entry.Entry.{Entry}
-use Rattle.sv39.specs.declared.entry.TooWide.{TooWide}
 use Rattle.walker.specs.declared.fault.Stop.{Stop}
 use Rattle.walker.specs.declared.fault.Stop.TheVariants.{EntryBeyond, Invalid, WriteOnly, PointerAtZero, Rights, Misaligned, Marks, FrameBeyond}
 use Rattle.walker.specs.declared.fault.WalkFault.{WalkFault}

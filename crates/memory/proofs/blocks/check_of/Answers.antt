@@ -1,4 +1,4 @@
-use Rattle.std.proofs.Common.{◌≡◌, ℕ, suc, ◌+◌, ◌*◌, ◌/◌, ◌%◌, ◌^◌, refl, ap, ◌∙◌, add-one, arith}
+use Rattle.std.proofs.Common.{◌≡◌, ℕ, ◌+◌, ◌*◌, refl, ap, ◌∙◌, add-one, arith}
 use lib.Bits.{bit_xor}
 use Rattle.memory.specs.Block.{word_at, byte_of, rotated, check_up_to}
 use Rattle.memory.proofs.blocks.check_of.Goals as goal

@@ -1,5 +1,5 @@
 use Rattle.std.proofs.Common.{◌≡◌, ℕ, ◌+◌, ◌-◌, ◌*◌, sym, ap, ◌∙◌, arith}
-use Rattle.memory.specs.Block.{word_at, byte_of, blocks_in, check_for, verdict}
+use Rattle.memory.specs.Block.{word_at, byte_of, blocks_in, verdict}
 use Rattle.memory.proofs.Checks.{lowest_here, lowest_on, looked_over}
 use Rattle.memory.proofs.blocks.first_damage.Goals as goal
 

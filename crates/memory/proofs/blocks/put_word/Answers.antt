@@ -1,6 +1,6 @@
 use Rattle.std.proofs.Common.{◌≡◌, ℕ, ◌+◌, ◌-◌, List, ap, ◌∙◌, div-one, arith}
 use borrow.Rule.Slice.PartMut.{put_mid}
-use Rattle.memory.specs.Block.{put, bytes_of}
+use Rattle.memory.specs.Block.{bytes_of}
 use Rattle.memory.proofs.Bytes.{put_from_mid}
 use Rattle.memory.proofs.blocks.put_word.Goals as goal
 

@@ -1,4 +1,4 @@
-use Rattle.std.proofs.Common.{◌≡◌, ℕ, ◌+◌, ◌*◌, ◌/◌, ◌^◌, ◌<◌, true, List, sym, ◌∙◌, subst, arith}
+use Rattle.std.proofs.Common.{◌≡◌, ℕ, ◌+◌, ◌*◌, ◌/◌, ◌^◌, ◌<◌, true, List, sym, subst, arith}
 use Rattle.memory.specs.Block.{put, bytes_of, start_of, byte_of, check_for, stored, sound}
 use Rattle.memory.proofs.Checks.{mid, done, sound_done}
 use Rattle.memory.proofs.blocks.store.Goals as goal

@@ -1,4 +1,4 @@
-use Rattle.std.proofs.Common.{◌≡◌, sym, ◌∙◌, arith}
+use Rattle.std.proofs.Common.{sym, ◌∙◌, arith}
 use Rattle.tlb.proofs.Sparse.{empty_here, empty_past, empty_none}
 use Rattle.tlb.proofs.slots.lowest_empty.Goals as goal
 

@@ -1,6 +1,5 @@
-use Rattle.std.proofs.Common.{◌≡◌, ℕ, ◌*◌, ◌^◌, ◌<◌, true, false, List, length, Ok, Err, sym, refl, ap, ◌∙◌, subst, arith}
+use Rattle.std.proofs.Common.{◌≡◌, Err, sym, ap, ◌∙◌, arith}
 use Rattle.std.proofs.lemmas.Result.{err_from_is_err_and, IfOk-from_err}
-use Rattle.walker.specs.declared.fault.WalkFault.TheVariants.{RootTooWide}
 use Rattle.walker.specs.Walk.{found, last_step, walk_from}
 use Rattle.walker.proofs.Steps.{found_wide, found_not_canonical, found_below, last_inside, last_past}
 use Rattle.walker.proofs.walking.walk.Given.{Over}

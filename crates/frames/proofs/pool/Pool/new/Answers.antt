@@ -1,6 +1,5 @@
-use Rattle.std.proofs.Common.{◌≡◌, ℕ, ◌+◌, min, List, [], length, replicate, refl, ap, ◌∙◌, arith}
+use Rattle.std.proofs.Common.{ℕ, [], length, replicate, refl, ap, ◌∙◌, arith}
 use Rattle.frames.specs.declared.state.FrameState.TheVariants.{Free}
-use Rattle.frames.specs.Frames.{stack}
 use Rattle.frames.proofs.Counting.{all_free}
 use Rattle.frames.proofs.Stacks.{stack_none}
 use Rattle.frames.proofs.Takes.{pool}

@@ -1,4 +1,4 @@
-use Rattle.std.proofs.Common.{◌≡◌, ℕ, ◌+◌, List, ◌∷◌, set, sym, refl, ap, ◌∙◌, subst, arith}
+use Rattle.std.proofs.Common.{◌≡◌, ℕ, List, ◌∷◌, set, sym, ap, ◌∙◌, subst, arith}
 use Rattle.frames.specs.declared.state.FrameState.TheVariants.{Free}
 use Rattle.frames.specs.Frames.{stack}
 use Rattle.frames.proofs.Soundness.{Sound, sound, room_left, busy_below, released_sound}

@@ -1,4 +1,4 @@
-use Rattle.std.proofs.Common.{◌≡◌, sym}
+use Rattle.std.proofs.Common.{sym}
 use Rattle.frames.proofs.Soundness.{sound}
 use Rattle.frames.proofs.Takes.{top_next, top_taken, top_sound}
 use Rattle.frames.proofs.pool.Pool.take.Goals as goal

@@ -1,4 +1,3 @@
-use Rattle.std.proofs.Common.{◌≡◌}
 use Rattle.frames.proofs.Soundness.{sound, unused_sound}
 use Rattle.frames.proofs.Takes.{unused_next, unused_taken, none_next, none_taken}
 use Rattle.frames.proofs.pool.Pool.take_unused.Goals as goal

@@ -1,5 +1,5 @@
-use Rattle.std.proofs.Common.{◌≡◌, ℕ, ◌+◌, ◌-◌, sym, refl, ap, ◌∙◌}
-use Rattle.policy.specs.Dial.{Swept, beyond, sweep, swept}
+use Rattle.std.proofs.Common.{◌≡◌, ◌+◌, ◌-◌, sym, refl, ap, ◌∙◌}
+use Rattle.policy.specs.Dial.{Swept, beyond, swept}
 use Rattle.policy.specs.Dials.{look_last, look_marked, look_free, looks_left, no_look_left}
 use Rattle.policy.proofs.dial.Dial.sweep.Goals as goal
 

@@ -1,4 +1,4 @@
-use Rattle.std.proofs.Common.{◌≡◌, ℕ, Bool, List, length, sym, refl, ap, ◌∙◌, arith}
+use Rattle.std.proofs.Common.{◌≡◌, length, sym, refl, ap, ◌∙◌}
 use Rattle.policy.specs.Tree.{followed, touched}
 use Rattle.policy.specs.Trees.{touched_away, length_touched, four_turns}
 use Rattle.policy.proofs.tree.Tree.touch.Goals as goal

@@ -1,4 +1,4 @@
-use Rattle.std.proofs.Common.{◌≡◌, ◌<◌, length, sym, ap, ◌∙◌, arith}
+use Rattle.std.proofs.Common.{◌<◌, length, sym, ap, ◌∙◌, arith}
 use Rattle.tlb.specs.declared.row.Row.{Row}
 use Rattle.tlb.proofs.Scans.{step_covered, step_other, fenced_all, emptied_all}
 use Rattle.tlb.proofs.row.Row.fence.Goals as goal

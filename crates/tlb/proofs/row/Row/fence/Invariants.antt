@@ -1,4 +1,4 @@
-use Rattle.std.proofs.Common.{◌≡◌, ◌+◌, ◌≤◌, ◌++◌, take, drop}
+use Rattle.std.proofs.Common.{◌≡◌, ◌≤◌, ◌++◌, take, drop}
 use Rattle.tlb.specs.Rows.{fenced, emptied}
 use Rattle.tlb.proofs.row.Row.fence.Given as goal
 

@@ -1,4 +1,4 @@
-use Rattle.std.proofs.Common.{◌≡◌, ◌<◌, ◌≤◌, length, sym, ◌∙◌, arith}
+use Rattle.std.proofs.Common.{◌<◌, length, sym, ◌∙◌, arith}
 use Rattle.tlb.proofs.Scans.{found_here, found_past, found_past_empty, found_none}
 use Rattle.tlb.proofs.row.Row.find.Goals as goal
 use Rattle.tlb.proofs.row.Row.find.Goals.{in-Some+else-is_for, in_default}

@@ -1,4 +1,4 @@
-use Rattle.std.proofs.Common.{◌≡◌, ◌<◌, ◌≤◌, length, sym, ap, ◌∙◌, arith}
+use Rattle.std.proofs.Common.{◌<◌, length, sym, ◌∙◌, arith}
 use Rattle.tlb.proofs.Scans.{empty_here, empty_past, empty_none}
 use Rattle.tlb.proofs.row.Row.lowest_empty.Goals as goal
 

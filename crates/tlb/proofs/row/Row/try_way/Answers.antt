@@ -1,5 +1,4 @@
-use Rattle.std.proofs.Common.{◌≡◌, ◌+◌, ◌<◌, length, get_or, Some, None, sym, ◌∙◌, arith}
-use Rattle.std.proofs.lemmas.List.{get_or_default}
+use Rattle.std.proofs.Common.{◌≡◌, ◌<◌, get_or, Some, None, sym, arith}
 use Rattle.tlb.proofs.Scans.{found_within}
 use Rattle.tlb.proofs.Tries.{served_hit, tried_hit, served_miss, tried_miss}
 use Rattle.tlb.proofs.row.Row.try_way.Goals as goal
