@@ -1,5 +1,5 @@
 -- The step of an access.
-use Rattle.std.specs.Prelude.{ℕ, ◌%◌, Bool, cond, List, Some, None, Ok, Err, Option, Result, ◌==◌, slice_index, slice_set}
+use Rattle.std.specs.Prelude.{ℕ, ◌%◌, cond, List, Some, None, Ok, Err, Option, Result, ◌==◌, slice_index, slice_set}
 use Rattle.sv39.specs.declared.access.Access.{Access}
 use Rattle.sv39.specs.declared.access.Kind.{Kind}
 use Rattle.sv39.specs.declared.access.Kind.TheVariants as kind
@@ -14,7 +14,6 @@ use Rattle.walker.specs.Walk.{walked}
 use Rattle.machine.specs.declared.hart.Hart.{Hart}
 use Rattle.machine.specs.declared.access.Action.{Action}
 use Rattle.machine.specs.declared.access.Action.TheVariants.{Fetch, Load, Store}
-use Rattle.machine.specs.declared.access.By.{By}
 use Rattle.machine.specs.declared.access.By.TheVariants as by
 use Rattle.machine.specs.declared.access.Request.{Request}
 use Rattle.machine.specs.declared.access.Reached.{Reached}

@@ -6,7 +6,6 @@ use Rattle.debts.specs.Debts as ledger
 use Rattle.frames.specs.declared.state.FrameState.TheVariants as state
 use Rattle.frames.specs.Frames.{Frames, freed}
 use Rattle.sv39.specs.Address.{canonical, page}
-use Rattle.tlb.specs.declared.way.Way.{Way}
 use Rattle.tlb.specs.Rows.{fenced, emptied}
 use Rattle.machine.specs.declared.hart.Hart.{Hart}
 use Rattle.machine.specs.declared.refusal.Refusal.{Refusal}

@@ -1,5 +1,5 @@
 -- The machine's state as a value, and what it means that a call did its step.
-use Rattle.std.specs.Prelude.{◌≡◌, ℕ, ◌/◌, min, max, Bool, false, List, [], ◌∷◌, map, length, replicate, Some, None, Option, nat_lt, slice_index_or}
+use Rattle.std.specs.Prelude.{◌≡◌, ℕ, ◌/◌, min, max, Bool, false, List, [], ◌∷◌, length, replicate, None, Option, nat_lt, slice_index_or}
 use Rattle.debts.specs.Debts.{Debts, debts_of}
 use Rattle.debts.specs.Debts as ledger
 use Rattle.frames.specs.Frames.{Frames, frames_of}

@@ -1,5 +1,5 @@
 -- A frame filled with zeros, doubleword by doubleword.
-use Rattle.std.proofs.Common.{◌≡◌, ℕ, suc, ◌+◌, ◌*◌, List, set, sym, refl, ap, ◌∙◌, arith}
+use Rattle.std.proofs.Common.{◌≡◌, ℕ, suc, ◌+◌, ◌*◌, List, set, refl, ap, arith}
 use Rattle.tables.specs.Tables.{cleared_to}
 
 pub cleared_none : (cells : List ℕ) (frame : ℕ) → cells ≡ cleared_to 0 cells frame

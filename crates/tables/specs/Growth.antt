@@ -1,5 +1,5 @@
 -- The tables on the way to a page, taken where they are missing.
-use Rattle.std.specs.Prelude.{ℕ, ◌+◌, List, Some, None, Option, slice_set}
+use Rattle.std.specs.Prelude.{ℕ, List, Some, None, Option, slice_set}
 use Rattle.frames.specs.declared.state.FrameState.TheVariants.{Table}
 use Rattle.frames.specs.Frames.{Frames, next, taken}
 use Rattle.sv39.specs.declared.entry.Rights.{Rights}

@@ -1,4 +1,4 @@
-use Rattle.std.proofs.Common.{◌≡◌, ℕ, Option, sym, refl, ap, ◌∙◌}
+use Rattle.std.proofs.Common.{refl, ap}
 use Rattle.machine.specs.Accesses.{slot_of}
 use Rattle.machine.proofs.access.slot_of.Goals as goal
 

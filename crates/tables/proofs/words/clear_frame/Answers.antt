@@ -1,4 +1,4 @@
-use Rattle.std.proofs.Common.{◌≡◌, ℕ, ◌+◌, ◌*◌, List, set, sym, ap, ◌∙◌, arith}
+use Rattle.std.proofs.Common.{◌≡◌, ℕ, ◌+◌, ◌*◌, List, set, ap, ◌∙◌, arith}
 use Rattle.tables.specs.Tables.{cleared_to}
 use Rattle.tables.proofs.Clearing.{cleared_none, cleared_more}
 use Rattle.tables.proofs.words.clear_frame.Goals as goal

@@ -1,4 +1,4 @@
-use Rattle.std.proofs.Common.{◌≡◌, set, ap, ◌∙◌, arith}
+use Rattle.std.proofs.Common.{set, ap, ◌∙◌, arith}
 use Rattle.debts.proofs.Ledgers.{marked_more, marked_all}
 use Rattle.debts.proofs.ledger.Ledger.fence.Goals as goal
 

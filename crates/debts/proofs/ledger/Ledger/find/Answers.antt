@@ -1,4 +1,4 @@
-use Rattle.std.proofs.Common.{◌≡◌, ◌<◌, length, sym, ◌∙◌, arith}
+use Rattle.std.proofs.Common.{◌<◌, length, sym, ◌∙◌, arith}
 use Rattle.debts.proofs.Ledgers.{open_here, open_past, open_past_empty, open_none}
 use Rattle.debts.proofs.ledger.Ledger.find.Goals as goal
 use Rattle.debts.proofs.ledger.Ledger.find.Goals.{in-Some+else-debt-number, in_default}

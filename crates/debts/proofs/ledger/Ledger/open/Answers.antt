@@ -1,4 +1,4 @@
-use Rattle.std.proofs.Common.{sym, ◌∙◌, arith}
+use Rattle.std.proofs.Common.{sym, arith}
 use Rattle.debts.specs.Debts.{debts_of}
 use Rattle.debts.proofs.Ledgers.{room_below}
 use Rattle.debts.proofs.ledger.Ledger.open.Goals as goal

@@ -1,10 +1,10 @@
-use Rattle.std.proofs.Common.{◌≡◌, ℕ, ◌%◌, ◌<◌, Bool, cond, List, length, set, Err, Option, sym, refl, ap, ◌∙◌, arith}
+use Rattle.std.proofs.Common.{ℕ, ◌%◌, ◌<◌, Bool, cond, List, length, set, Err, Option, sym, ap, ◌∙◌, arith}
 use Rattle.std.proofs.lemmas.Bool.{eq-eqb}
 use Rattle.sv39.specs.Address.{page}
 use Rattle.tlb.specs.declared.way.Way.{Way}
 use Rattle.tlb.specs.Trying.{served, tried}
 use Rattle.machine.specs.declared.refusal.Cause.TheVariants.{Misaligned}
-use Rattle.machine.specs.Accesses.{filled, found_by, with_row}
+use Rattle.machine.specs.Accesses.{filled, found_by}
 use Rattle.machine.specs.State.{State, state_of, row_of}
 use Rattle.machine.proofs.Filling.{filled_after_tried}
 use Rattle.machine.proofs.States.{did_at}
