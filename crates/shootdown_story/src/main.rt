@@ -1,8 +1,8 @@
 // One shootdown, told from start to end: eight harts, two panels, one frame.
 #![tactic(auto)]
 
+mod printing;
 mod story;
-mod telling;
 
 use machine::{Machine, check};
 use memory::{Blocks, Interleaved, Memory, Words};

@@ -1,5 +1,5 @@
 // The acts of the story, over any memory and any policy.
-use crate::telling::{
+use crate::printing::{
     fence, grant, heading, load, show_debt, show_frame, store, tell, tell_refused,
 };
 use anyhow::anyhow;
