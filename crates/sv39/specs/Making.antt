@@ -15,6 +15,10 @@ abbrev pub Made : Flags → ℕ → ℕ → ℕ → Result Entry TooWide → Typ
 Made flags rsw ppn top (Ok e) = (e.flags ≡ flags) × (e.rsw ≡ rsw) × (e.ppn ≡ ppn) × (e.top ≡ top)
 Made flags rsw ppn top (Err t) = Narrow rsw ppn top → ⊥
 
+-- the rights that flags give
+abbrev pub rights_of : Flags → Rights
+rights_of f = record { r = f.r; w = f.w; x = f.x; u = f.u }
+
 -- a leaf with rights: V, A, and D if W
 abbrev pub leaf_flags : Rights → Flags
 leaf_flags p = record { v = true; r = p.r; w = p.w; x = p.x; u = p.u; g = false; a = true; d = p.w }

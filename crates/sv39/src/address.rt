@@ -1,6 +1,25 @@
-// Addresses: when one is canonical, its indexes and its page.
-ghost use Rattle.std.specs.Prelude.{◌≡◌, ◌<◌, ◌≤◌, [], ◌∷◌};
-ghost use Rattle.sv39.specs.Address.{canonical, index, page};
+// Addresses: when one is canonical, its indexes, its entries and its page.
+ghost use Rattle.std.specs.Prelude.{◌≡◌, ◌^◌, ◌<◌, ◌≤◌, [], ◌∷◌};
+ghost use Rattle.sv39.specs.Address.{canonical, index, page, entry_of};
+ghost use Rattle.sv39.specs.Levels.{number_of};
+
+/// A level of the tables: a root is at level 2, and a page's own leaf at level 0.
+#[derive(Clone, Copy, PartialEq, Eq, Debug)]
+pub enum Level {
+    Zero,
+    One,
+    Two,
+}
+
+impl Level {
+    /// The level as its number.
+    pub fn number(self) -> u8
+        ensures value { result ≡ number_of self }
+        ensures bound { result ≤ 2 }
+    {
+        self as u8
+    }
+}
 
 /// Whether bits 39 to 63 all equal bit 38.
 pub fn is_canonical(address: u64) -> bool
@@ -10,13 +29,21 @@ pub fn is_canonical(address: u64) -> bool
     high == 0 || high == 0x3ff_ffff
 }
 
-/// The index of an address into a table of a level. For the crates of this part alone: it asks that the level is one.
-pub fn index_at(address: u64, level: u8) -> u64
-    requires { level ≤ 2 }
-    ensures value { result ≡ index address level }
+/// The index of an address into a table of a level.
+pub fn index_at(address: u64, level: Level) -> u64
+    ensures value { result ≡ index address (number_of level) }
     ensures bound { result < 512 }
 {
-    (address >> (12 + 9 * level as u32)) % 512
+    (address >> (12 + 9 * level.number())) % 512
+}
+
+/// The doubleword number of an address's entry in the table of a frame. For the crates of this part alone: it asks that
+/// the frame's number is one.
+pub fn entry_of(table: u64, address: u64, level: Level) -> u64
+    requires { table < 2 ^ 44 }
+    ensures { result ≡ entry_of table address (number_of level) }
+{
+    512 * table + index_at(address, level)
 }
 
 /// The indexes of an address at levels 0, 1 and 2, in this order.
@@ -24,9 +51,9 @@ pub fn indexes(address: u64) -> [u64; 3]
     ensures { result ≡ index address 0 ∷ index address 1 ∷ index address 2 ∷ [] }
 {
     [
-        index_at(address, 0),
-        index_at(address, 1),
-        index_at(address, 2),
+        index_at(address, Level::Zero),
+        index_at(address, Level::One),
+        index_at(address, Level::Two),
     ]
 }
 

@@ -5,7 +5,7 @@ use std::error::Error;
 use std::fmt;
 
 /// The eight flag bits of an entry, from bit 0 up: valid, readable, writable, executable, user, global, accessed, dirty.
-#[derive(Clone, Copy, PartialEq, Eq, Debug)]
+#[derive(Clone, Copy, PartialEq, Eq, Debug, Default)]
 pub struct Flags {
     pub v: bool,
     pub r: bool,

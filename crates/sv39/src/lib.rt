@@ -7,5 +7,5 @@ mod entry;
 mod packing;
 
 pub use access::{Access, Kind, Mode};
-pub use address::{index_at, indexes, is_canonical, page_of};
+pub use address::{Level, entry_of, index_at, indexes, is_canonical, page_of};
 pub use entry::{Entry, Flags, Rights, TooWide};

@@ -1,6 +1,6 @@
 // Entries from doublewords, from numbers, and back.
 ghost use Rattle.std.specs.Prelude.{◌≡◌, ◌+◌, ◌*◌, ◌/◌, ◌%◌, ◌^◌, ◌<◌, ◌≤◌};
-ghost use Rattle.sv39.specs.Making.{Made, leaf_flags, pointer_flags, with_flags};
+ghost use Rattle.sv39.specs.Making.{Made, leaf_flags, pointer_flags, rights_of, with_flags};
 ghost use Rattle.sv39.specs.Layout.{bit, flags_of, packed_flags, unpacked, packed};
 
 use crate::{Entry, Flags, Rights, TooWide};
@@ -59,6 +59,16 @@ impl Rights {
     }
 }
 
+/// The rights that a leaf with these flags gives.
+impl From<Flags> for Rights {
+    ghost from_gives = { λ flags r. r ≡ rights_of flags };
+
+    fn from(flags: Flags) -> Rights {
+        let Flags { r, w, x, u, .. } = flags;
+        Rights { r, w, x, u }
+    }
+}
+
 impl TooWide {
     /// The number of this refusal.
     pub fn number(self) -> u8
@@ -98,13 +108,7 @@ impl Entry {
     {
         let flags = Flags {
             v: true,
-            r: false,
-            w: false,
-            x: false,
-            u: false,
-            g: false,
-            a: false,
-            d: false,
+            ..Flags::default()
         };
         Entry::new(flags, 0, frame, 0)
     }
@@ -113,6 +117,7 @@ impl Entry {
     pub fn with_flags(self, flags: Flags) -> Entry
         ensures { result ≡ with_flags self flags }
     {
+        // `..self` is not supported where a struct has a ghost field.
         let Entry {
             flags: _,
             rsw,

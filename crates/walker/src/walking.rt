@@ -1,11 +1,12 @@
 // The walk: from the root down to a leaf, over any memory.
 ghost use Rattle.std.specs.Prelude.{◌≡◌, ◌+◌, ◌*◌, ◌^◌, ◌<◌, ◌≤◌, IfOk, Ok, Err, MatchResult};
-ghost use Rattle.sv39.specs.Address.{entry_of, frame_of, doubleword_of};
+ghost use Rattle.sv39.specs.Address.{frame_of, doubleword_of};
+ghost use Rattle.sv39.specs.Levels.{number_of};
 ghost use Rattle.walker.specs.Walk.{decided, look_of, step_of, walk_from, walked, StepWithin};
 
 use crate::{Stop, WalkFault};
 use memory::{Beyond, Memory};
-use sv39::{Access, Entry, TooWide, index_at, is_canonical};
+use sv39::{Access, Entry, Level, TooWide, entry_of, is_canonical};
 
 /// Where an access comes to: a frame, and the leaf that says so with its level.
 #[derive(Clone, Copy, PartialEq, Eq, Debug)]
@@ -23,28 +24,27 @@ pub enum Step {
     Leaf(Translation),
 }
 
-/// The doubleword number of an address's entry in a table.
-fn entry_of(table: u64, address: u64, level: u8) -> u64
-    requires { (level ≤ 2) × (table < 2 ^ 44) }
-    ensures { result ≡ entry_of table address level }
+/// How many frames a leaf of a level spans.
+fn span_of(level: Level) -> u64
+    ensures value { result ≡ 2 ^ (9 * number_of level) }
+    ensures bound { (1 ≤ result) × (result ≤ 2 ^ 18) }
 {
-    512 * table + index_at(address, level)
+    1 << (9 * level.number())
 }
 
 /// The frame of a leaf: its PPN, with the low 9 bits a level taken from the page number.
-fn frame_of(ppn: u64, address: u64, level: u8) -> u64
-    requires { (level ≤ 2) × (ppn < 2 ^ 44) }
-    ensures value { result ≡ frame_of ppn address level }
+fn frame_of(ppn: u64, address: u64, level: Level) -> u64
+    requires { ppn < 2 ^ 44 }
+    ensures value { result ≡ frame_of ppn address (number_of level) }
     ensures bound { result < 2 ^ 44 }
 {
-    let span = 1u64 << (9 * level as u32);
+    let span = span_of(level);
     ppn - ppn % span + address / 4096 % span
 }
 
 /// What an entry of a level leads to, or what stops the walk at it.
-fn decide(entry: Entry, level: u8, access: &Access) -> Result<Step, Stop>
-    requires { level ≤ 2 }
-    ensures value { result ≡ decided access.now level entry }
+fn decide(entry: Entry, level: Level, access: &Access) -> Result<Step, Stop>
+    ensures value { result ≡ decided access.now (number_of level) entry }
     ensures within { IfOk result StepWithin }
 {
     let flags = entry.flags;
@@ -60,7 +60,7 @@ fn decide(entry: Entry, level: u8, access: &Access) -> Result<Step, Stop>
     if !access.is_permitted(flags) {
         return Err(Stop::Rights);
     }
-    if entry.ppn % (1u64 << (9 * level as u32)) != 0 {
+    if entry.ppn % span_of(level) != 0 {
         return Err(Stop::Misaligned);
     }
     if !access.is_marked(flags) {
@@ -69,15 +69,14 @@ fn decide(entry: Entry, level: u8, access: &Access) -> Result<Step, Stop>
     let frame = frame_of(entry.ppn, access.address, level);
     Ok(Step::Leaf(Translation {
         frame,
-        level,
+        level: level.number(),
         leaf: entry,
     }))
 }
 
 /// Reads an entry and decides it.
-fn look<M: Memory>(memory: &M, entry: u64, level: u8, access: &Access) -> Result<Step, Stop>
-    requires { level ≤ 2 }
-    ensures value { result ≡ look_of (M.Memory.cells memory.now) access.now level entry }
+fn look<M: Memory>(memory: &M, entry: u64, level: Level, access: &Access) -> Result<Step, Stop>
+    ensures value { result ≡ look_of (M.Memory.cells memory.now) access.now (number_of level) entry }
     ensures within { IfOk result StepWithin }
 {
     let word = memory.read(entry)?;
@@ -88,22 +87,18 @@ fn look<M: Memory>(memory: &M, entry: u64, level: u8, access: &Access) -> Result
 fn take_step<M: Memory>(
     memory: &M,
     entry: u64,
-    level: u8,
+    level: Level,
     access: &Access,
 ) -> Result<Step, WalkFault>
-    requires { level ≤ 2 }
-    ensures value { result ≡ step_of (M.Memory.cells memory.now) access.now level entry }
+    ensures value { result ≡ step_of (M.Memory.cells memory.now) access.now (number_of level) entry }
     ensures within { IfOk result StepWithin }
 {
-    match look(memory, entry, level, access) {
-        Ok(step) => Ok(step),
-        Err(stop) => Err(WalkFault::Stopped {
-            stop,
-            kind: access.kind,
-            level,
-            entry,
-        }),
-    }
+    look(memory, entry, level, access).map_err(|stop| WalkFault::Stopped {
+        stop,
+        kind: access.kind,
+        level: level.number(),
+        entry,
+    })
 }
 
 /// From the root's table down to a leaf: its entry and where it leads.
@@ -116,18 +111,18 @@ fn descend<M: Memory>(
     ensures value { result ≡ walk_from (M.Memory.cells memory.now) access.now 2 root }
     ensures within { IfOk result (λ leaf. leaf.1.frame < 2 ^ 44) }
 {
-    let entry = entry_of(root, access.address, 2);
-    let table = match take_step(memory, entry, 2, access)? {
+    let entry = entry_of(root, access.address, Level::Two);
+    let table = match take_step(memory, entry, Level::Two, access)? {
         Step::Pointer(table) => table,
         Step::Leaf(found) => return Ok((entry, found)),
     };
-    let entry = entry_of(table, access.address, 1);
-    let table = match take_step(memory, entry, 1, access)? {
+    let entry = entry_of(table, access.address, Level::One);
+    let table = match take_step(memory, entry, Level::One, access)? {
         Step::Pointer(table) => table,
         Step::Leaf(found) => return Ok((entry, found)),
     };
-    let entry = entry_of(table, access.address, 0);
-    match take_step(memory, entry, 0, access)? {
+    let entry = entry_of(table, access.address, Level::Zero);
+    match take_step(memory, entry, Level::Zero, access)? {
         Step::Pointer(_) => Err(WalkFault::Stopped {
             stop: Stop::PointerAtZero,
             kind: access.kind,
