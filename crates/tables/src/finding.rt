@@ -1,29 +1,30 @@
-// Following tables from a root to a page's leaf. Roots and tables are frames' numbers, below 2^44.
-ghost use Rattle.std.specs.Prelude.{◌≡◌, ◌+◌, ◌*◌, ◌^◌, ◌<◌, ◌≤◌, cond, ◌&&◌, IfSome};
-ghost use Rattle.sv39.specs.Address.{entry_of};
-ghost use Rattle.tables.specs.Tables.{entry_at, table_of, table_below_of, low_table_of, missing};
-ghost use Rattle.tables.specs.Tables as value;
+// Following tables from a root to a page's leaf.
+ghost use Rattle.std.specs.Prelude.{◌≡◌};
+ghost use Rattle.sv39.specs.Levels.{number_of};
+ghost use Rattle.tables.specs.Tables.{table_of, table_below_of, low_table_of, leaf_of, missing};
 
 use crate::words::word_at;
 use memory::Memory;
-use sv39::{Entry, index_at};
+use sv39::{Entry, Level, entry_of};
 
-/// The doubleword number of an address's entry in a table.
-pub fn entry_of(table: u64, address: u64, level: u8) -> u64
-    requires { (level ≤ 2) × (table < 2 ^ 44) }
-    ensures { result ≡ entry_of table address level }
-{
-    512 * table + index_at(address, level)
+/// A page's leaf and the doubleword number where it stands.
+pub type Leaf = (u64, Entry);
+
+/// The tables below a root: each lies in one of the memory's first `limit` frames.
+#[derive(Clone, Copy)]
+pub struct Tables<'a, M> {
+    pub memory: &'a M,
+    pub limit: u16,
+    pub root: u16,
 }
 
 /// The table that an entry leads on to: one of the first `limit` frames.
-fn table_of(entry: Entry, limit: usize) -> Option<u64>
-    ensures value { result ≡ table_of limit entry }
-    ensures bound { IfSome result (λ t. t < 2 ^ 44) }
+fn table_of(entry: Entry, limit: u16) -> Option<u16>
+    ensures { result ≡ table_of limit entry }
 {
     let flags = entry.flags;
-    if flags.v && !flags.r && !flags.w && !flags.x && entry.ppn < limit as u64 {
-        Some(entry.ppn)
+    if flags.v && !flags.r && !flags.w && !flags.x && entry.ppn < u64::from(limit) {
+        Some(entry.ppn as u16)
     } else {
         None
     }
@@ -32,57 +33,46 @@ fn table_of(entry: Entry, limit: usize) -> Option<u64>
 /// The table that an address's entry in a table leads on to.
 pub fn table_below<M: Memory>(
     memory: &M,
-    limit: usize,
-    table: u64,
+    limit: u16,
+    table: u16,
     address: u64,
-    level: u8,
-) -> Option<u64>
-    requires { (level ≤ 2) × (table < 2 ^ 44) }
-    ensures value { result ≡ table_below_of (M.Memory.cells memory.now) limit table address level }
-    ensures bound { IfSome result (λ t. t < 2 ^ 44) }
+    level: Level,
+) -> Option<u16>
+    ensures { result ≡ table_below_of (M.Memory.cells memory.now) limit table address (number_of level) }
 {
-    let entry = entry_of(table, address, level);
+    let entry = entry_of(u64::from(table), address, level);
     table_of(Entry::unpack(word_at(memory, entry)), limit)
 }
 
-/// The table of level 0 for an address.
-fn low_table<M: Memory>(memory: &M, limit: usize, root: u64, address: u64) -> Option<u64>
-    requires { root < 2 ^ 44 }
-    ensures value { result ≡ low_table_of (M.Memory.cells memory.now) limit root address }
-    ensures bound { IfSome result (λ t. t < 2 ^ 44) }
-{
-    let mid = table_below(memory, limit, root, address, 2)?;
-    table_below(memory, limit, mid, address, 1)
-}
-
-/// A page's leaf and the doubleword number where it stands.
-pub type Leaf = (u64, Entry);
-
-/// The leaf of an address's page, where the page is mapped.
-pub fn leaf_at<M: Memory>(memory: &M, limit: usize, root: u64, address: u64) -> Option<Leaf>
-    requires { root < 2 ^ 44 }
-    ensures { result ≡ value.leaf_of (M.Memory.cells memory.now) limit root address }
-{
-    let low = low_table(memory, limit, root, address)?;
-    let place = entry_of(low, address, 0);
-    let entry = Entry::unpack(word_at(memory, place));
-    if entry.flags.v {
-        Some((place, entry))
-    } else {
-        None
+impl<'a, M: Memory> Tables<'a, M> {
+    /// The table of level 0 for an address.
+    fn low_table(&self, address: u64) -> Option<u16>
+        ensures { result ≡ low_table_of (M.Memory.cells self.now.memory.now) self.now.limit self.now.root address }
+    {
+        let mid = table_below(self.memory, self.limit, self.root, address, Level::Two)?;
+        table_below(self.memory, self.limit, mid, address, Level::One)
     }
-}
 
-/// How many tables are missing on the way to an address's page.
-pub fn missing_tables<M: Memory>(memory: &M, limit: usize, root: u64, address: u64) -> usize
-    requires { root < 2 ^ 44 }
-    ensures { result ≡ missing (M.Memory.cells memory.now) limit root address }
-{
-    let Some(mid) = table_below(memory, limit, root, address, 2) else {
-        return 2;
-    };
-    match table_below(memory, limit, mid, address, 1) {
-        Some(_) => 0,
-        None => 1,
+    /// The leaf of an address's page, where the page is mapped.
+    pub fn leaf(&self, address: u64) -> Option<Leaf>
+        ensures { result ≡ leaf_of (M.Memory.cells self.now.memory.now) self.now.limit self.now.root address }
+    {
+        let low = self.low_table(address)?;
+        let place = entry_of(u64::from(low), address, Level::Zero);
+        let entry = Entry::unpack(word_at(self.memory, place));
+        entry.flags.v.then_some((place, entry))
+    }
+
+    /// How many tables are missing on the way to an address's page.
+    pub fn missing(&self, address: u64) -> usize
+        ensures { result ≡ missing (M.Memory.cells self.now.memory.now) self.now.limit self.now.root address }
+    {
+        let Some(mid) = table_below(self.memory, self.limit, self.root, address, Level::Two) else {
+            return 2;
+        };
+        match table_below(self.memory, self.limit, mid, address, Level::One) {
+            Some(_) => 0,
+            None => 1,
+        }
     }
 }

@@ -5,6 +5,6 @@ mod finding;
 mod growing;
 mod words;
 
-pub use finding::{Leaf, leaf_at, missing_tables};
+pub use finding::{Leaf, Tables};
 pub use growing::{Grown, grow, put_leaf};
 pub use words::{clear_frame, put_word, word_at};

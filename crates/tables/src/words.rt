@@ -8,10 +8,7 @@ use memory::Memory;
 pub fn word_at<M: Memory>(memory: &M, n: u64) -> u64
     ensures { result ≡ slice_index (M.Memory.cells memory.now) n }
 {
-    match memory.read(n) {
-        Ok(word) => word,
-        Err(_) => 0,
-    }
+    memory.read(n).unwrap_or(0)
 }
 
 /// Puts a value at doubleword n, if it is there.
