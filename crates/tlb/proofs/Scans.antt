@@ -1,48 +1,27 @@
 -- Going through a row way by way.
-use Rattle.std.proofs.Common.{◌≡◌, ℕ, ◌+◌, ◌-◌, ◌<◌, ◌≤◌, Bool, true, false, cond, List, [], ◌∷◌, ◌++◌, length, get_or, take, drop, set, is_some, Some, None, Option, sym, refl, ap, ◌∙◌, arith}
+use Rattle.std.proofs.Common.{◌≡◌, ℕ, ◌+◌, ◌-◌, ◌<◌, ◌≤◌, Bool, true, false, cond, List, [], ◌∷◌, ◌++◌, length, get_or, take, drop, set, Some, None, Option, sym, refl, ap, ◌∙◌, arith}
 use Rattle.std.proofs.lemmas.List.Edits.{map_over_more}
-use Rattle.std.proofs.lemmas.List.{at_drop_more, at_drop_all, take_more, take_all, drop_all, set-get_or, append-nil, length-take-le, length-map, get_or-append_right, get_or-drop, get_or_default}
+use Rattle.std.proofs.lemmas.List.{take_more, take_all, drop_all, set-get_or, append-nil, length-take-le, length-drop, length-append, length-map, get_or-append_right, get_or-drop, get_or_default}
 use Rattle.std.proofs.lemmas.List.Sums.{sum_by_push}
 use Rattle.std.proofs.lemmas.Bool.{cond-true, cond-false}
 use Rattle.tlb.specs.declared.way.Way.{Way}
-use Rattle.tlb.specs.Rows.{found, empty_in, covers, spared, covered, fenced, emptied}
-use Rattle.tlb.specs.Slots.{empty_slot}
+use Rattle.tlb.specs.Rows.{found, covers, spared, covered, fenced, emptied}
+use Rattle.std.specs.List.{position, position_from}
+use Rattle.std.proofs.lemmas.Iterator.Adapters.{position_from-zero}
 use Rattle.tlb.specs.Ways.{speaks_for}
 
-module _ (ways : List (Option Way)) (i : ℕ) where
-  module _ (space page : ℕ) where
-    at_way : i < length ways → (o : Option Way) → get_or ways i None ≡ o → found space page i (drop i ways) ≡ found space page i (o ∷ drop (i + 1) ways)
-    at_way h o e =
-        at_drop_more (found space page i) ways i None h ∙ ap (λ (x : Option Way). found space page i (x ∷ drop (i + 1) ways)) e
+-- whether a way is held and for a page of a space
+abbrev pub holds_for : ℕ → ℕ → Option Way → Bool
+holds_for space page None = false
+holds_for space page (Some way) = speaks_for way space page
 
-    pub found_here : (way : Way) → i < length ways → get_or ways i None ≡ Some way → speaks_for way space page ≡ true → found space page i (drop i ways) ≡ Some i
-    found_here way h e t = at_way h (Some way) e ∙ cond-true (speaks_for way space page) _ _ t
+found_is_position_from : (space page i : ℕ) (ways : List (Option Way)) → position_from (holds_for space page) i ways ≡ found space page i ways
+found_is_position_from space page i [] = refl
+found_is_position_from space page i (None ∷ ways) = found_is_position_from space page (i + 1) ways
+found_is_position_from space page i (Some way ∷ ways) = ap (cond (speaks_for way space page) (Some i)) (found_is_position_from space page (i + 1) ways)
 
-    pub found_past : (way : Way) → i < length ways → get_or ways i None ≡ Some way → speaks_for way space page ≡ false → found space page i (drop i ways) ≡ found space page (i + 1) (drop (i + 1) ways)
-    found_past way h e t = at_way h (Some way) e ∙ cond-false (speaks_for way space page) _ _ t
-
-    pub found_past_empty : i < length ways → get_or ways i None ≡ None → found space page i (drop i ways) ≡ found space page (i + 1) (drop (i + 1) ways)
-    found_past_empty h e = at_way h None e
-
-    pub found_none : length ways ≤ i → found space page i (drop i ways) ≡ None
-    found_none h = at_drop_all (found space page i) ways i h
-
-  pub empty_here : i < length ways → is_some (get_or ways i None) ≡ false → empty_in i (drop i ways) ≡ Some i
-  empty_here h e = at_drop_more (empty_in i) ways i None h ∙ here (get_or ways i None) e
-    where
-      here : (o : Option Way) → is_some o ≡ false → empty_in i (o ∷ drop (i + 1) ways) ≡ Some i
-      here None t = refl
-      here (Some way) t = let z : ◌≡◌ {A = ℕ} 0 1 = cc in absurd (omega arith)
-
-  pub empty_past : i < length ways → is_some (get_or ways i None) ≡ true → empty_in i (drop i ways) ≡ empty_in (i + 1) (drop (i + 1) ways)
-  empty_past h e = at_drop_more (empty_in i) ways i None h ∙ past (get_or ways i None) e
-    where
-      past : (o : Option Way) → is_some o ≡ true → empty_in i (o ∷ drop (i + 1) ways) ≡ empty_in (i + 1) (drop (i + 1) ways)
-      past (Some way) t = refl
-      past None t = let z : ◌≡◌ {A = ℕ} 0 1 = cc in absurd (omega arith)
-
-  pub empty_none : length ways ≤ i → empty_in i (drop i ways) ≡ None
-  empty_none h = at_drop_all (empty_in i) ways i h
+pub found_is_position : (space page : ℕ) (ways : List (Option Way)) → position (holds_for space page) ways ≡ found space page 0 ways
+found_is_position space page ways = position_from-zero (holds_for space page) ways ∙ found_is_position_from space page 0 ways
 
 -- A fence that has come to way i: the row ys has the ways so far fenced and the others of xs as they were.
 module _ (space page : Option ℕ) (xs ys : List (Option Way)) (i : ℕ) (inside : i < length xs) (so_far : ys ≡ fenced space page (take i xs) ++ drop i xs) where
@@ -54,9 +33,15 @@ module _ (space page : Option ℕ) (xs ys : List (Option Way)) (i : ℕ) (inside
       ∙ get_or-append_right (fenced space page (take i xs)) (drop i xs) i i None l (omega arith)
       ∙ get_or-drop i xs (i - i) None ∙ ap (λ (n : ℕ). get_or xs n None) z
 
+  inside_now : i < length ys
+  inside_now =
+      let l = length-take-le i xs (omega arith) in
+      let d = length-drop i xs in
+      omega (arith, simp (length-append, length-map) at (ap length so_far))
+
   -- what the fence does at way i: o was there, and what is spared of it stays
-  pub fenced_more : (o : Option Way) → i < length ys → get_or ys i None ≡ o → set ys i (spared space page o) ≡ fenced space page (take (i + 1) xs) ++ drop (i + 1) xs
-  fenced_more o h e = map_over_more (spared space page) xs ys i o inside so_far (sym e ∙ get_or_default ys i None o h)
+  pub fenced_more : (o : Option Way) → get_or ys i None ≡ o → set ys i (spared space page o) ≡ fenced space page (take (i + 1) xs) ++ drop (i + 1) xs
+  fenced_more o e = map_over_more (spared space page) xs ys i o inside so_far (sym e ∙ get_or_default ys i None o inside_now)
 
   pub unchanged : (o : Option Way) → get_or ys i None ≡ o → set ys i o ≡ ys
   unchanged o e = ap (set ys i) (sym e) ∙ set-get_or ys i None
@@ -75,15 +60,15 @@ module _ (space page : Option ℕ) (xs ys : List (Option Way)) (i : ℕ) (inside
   spared_other None e = refl
   spared_other (Some way) e = cond-false (covers space page way) _ _ e
 
-  pub step_covered : i < length ys → covered space page (get_or ys i None) ≡ true → (set ys i None ≡ fenced space page (take (i + 1) xs) ++ drop (i + 1) xs) × (emptied space page (take (i + 1) xs) ≡ emptied space page (take i xs) + 1)
-  step_covered h e = (
-    ap (set ys i) (sym (spared_covered (get_or ys i None) e)) ∙ fenced_more (get_or ys i None) h refl,
+  pub step_covered : covered space page (get_or ys i None) ≡ true → (set ys i None ≡ fenced space page (take (i + 1) xs) ++ drop (i + 1) xs) × (emptied space page (take (i + 1) xs) ≡ emptied space page (take i xs) + 1)
+  step_covered e = (
+    ap (set ys i) (sym (spared_covered (get_or ys i None) e)) ∙ fenced_more (get_or ys i None) refl,
     emptied_more (get_or ys i None) refl ∙ ap (λ (n : ℕ). emptied space page (take i xs) + n) (ap (λ (b : Bool). cond b 1 0) e),
   )
 
-  pub step_other : i < length ys → covered space page (get_or ys i None) ≡ false → (ys ≡ fenced space page (take (i + 1) xs) ++ drop (i + 1) xs) × (emptied space page (take (i + 1) xs) ≡ emptied space page (take i xs) + 0)
-  step_other h e = (
-    sym (unchanged (get_or ys i None) refl) ∙ ap (set ys i) (sym (spared_other (get_or ys i None) e)) ∙ fenced_more (get_or ys i None) h refl,
+  pub step_other : covered space page (get_or ys i None) ≡ false → (ys ≡ fenced space page (take (i + 1) xs) ++ drop (i + 1) xs) × (emptied space page (take (i + 1) xs) ≡ emptied space page (take i xs) + 0)
+  step_other e = (
+    sym (unchanged (get_or ys i None) refl) ∙ ap (set ys i) (sym (spared_other (get_or ys i None) e)) ∙ fenced_more (get_or ys i None) refl,
     emptied_more (get_or ys i None) refl ∙ ap (λ (n : ℕ). emptied space page (take i xs) + n) (ap (λ (b : Bool). cond b 1 0) e),
   )
 
@@ -105,9 +90,3 @@ found_within space page i (Some way ∷ ways) k e =
     at : (b : Bool) → (found space page (i + 1) ways ≡ Some k → k < i + 1 + length ways) → cond b (Some i) (found space page (i + 1) ways) ≡ Some k → k < i + length (Some way ∷ ways)
     at true r t = let z : i ≡ k = cc in omega arith
     at false r t = let l = r t in omega arith
-
--- ways are slots
-pub empty_way : (i : ℕ) (ways : List (Option Way)) → empty_in i ways ≡ empty_slot i ways
-empty_way i [] = refl
-empty_way i (None ∷ ways) = refl
-empty_way i (Some way ∷ ways) = empty_way (i + 1) ways

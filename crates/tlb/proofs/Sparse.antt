@@ -1,29 +1,16 @@
 -- Going through slots one by one.
-use Rattle.std.proofs.Common.{◌≡◌, ℕ, ◌+◌, ◌<◌, ◌≤◌, true, false, List, [], ◌∷◌, length, get_or, drop, is_some, IfSome, Some, None, Option, sym, refl, ap, ◌∙◌, arith}
-use Rattle.std.proofs.lemmas.List.{at_drop_more, at_drop_all}
+use Rattle.std.proofs.Common.{◌≡◌, ℕ, ◌+◌, ◌<◌, not, List, [], ◌∷◌, length, is_some, IfSome, Some, None, Option, sym, refl, ◌∙◌, arith}
+use Rattle.std.specs.List.{position, position_from}
+use Rattle.std.proofs.lemmas.Iterator.Adapters.{position_from-zero}
 use Rattle.tlb.specs.Slots.{empty_slot}
 
-module _ {A : Type 0} (slots : List (Option A)) (i : ℕ) where
-  -- what a scan from slot i on makes of the slot, which is o
-  pub at_slot : {B : Type 0} (scan : List (Option A) → B) (o : Option A) → i < length slots → o ≡ get_or slots i o → scan (drop i slots) ≡ scan (o ∷ drop (i + 1) slots)
-  at_slot scan o h e = at_drop_more scan slots i o h ∙ ap (λ (x : Option A). scan (x ∷ drop (i + 1) slots)) (sym e)
+empty_slot_is_position_from : {A : Type 0} (i : ℕ) (slots : List (Option A)) → position_from (λ o. not (is_some o)) i slots ≡ empty_slot i slots
+empty_slot_is_position_from i [] = refl
+empty_slot_is_position_from i (None ∷ slots) = refl
+empty_slot_is_position_from i (Some held ∷ slots) = empty_slot_is_position_from (i + 1) slots
 
-  pub empty_here : (o : Option A) → i < length slots → o ≡ get_or slots i o → is_some o ≡ false → empty_slot i (drop i slots) ≡ Some i
-  empty_here o h is e = at_slot (empty_slot i) o h is ∙ here o e
-    where
-      here : (o : Option A) → is_some o ≡ false → empty_slot i (o ∷ drop (i + 1) slots) ≡ Some i
-      here None t = refl
-      here (Some held) t = let z : ◌≡◌ {A = ℕ} 0 1 = cc in absurd (omega arith)
-
-  pub empty_past : (o : Option A) → i < length slots → o ≡ get_or slots i o → is_some o ≡ true → empty_slot i (drop i slots) ≡ empty_slot (i + 1) (drop (i + 1) slots)
-  empty_past o h is e = at_slot (empty_slot i) o h is ∙ past o e
-    where
-      past : (o : Option A) → is_some o ≡ true → empty_slot i (o ∷ drop (i + 1) slots) ≡ empty_slot (i + 1) (drop (i + 1) slots)
-      past (Some held) t = refl
-      past None t = let z : ◌≡◌ {A = ℕ} 0 1 = cc in absurd (omega arith)
-
-  pub empty_none : length slots ≤ i → empty_slot i (drop i slots) ≡ None
-  empty_none h = at_drop_all (empty_slot i) slots i h
+pub empty_slot_is_position : {A : Type 0} (slots : List (Option A)) → position (λ o. not (is_some o)) slots ≡ empty_slot 0 slots
+empty_slot_is_position slots = position_from-zero (λ o. not (is_some o)) slots ∙ empty_slot_is_position_from 0 slots
 
 -- a slot that is found is one of those looked through
 pub empty_below : {A : Type 0} (slots : List (Option A)) (i n : ℕ) → empty_slot i slots ≡ Some n → n < i + length slots

@@ -9,19 +9,13 @@ found space page i [] = None
 found space page i (None ∷ ways) = found space page (i + 1) ways
 found space page i (Some way ∷ ways) = cond (speaks_for way space page) (Some i) (found space page (i + 1) ways)
 
--- the lowest empty way, counted from i
-abbrev pub empty_in : ℕ → List (Option Way) → Option ℕ
-empty_in i [] = None
-empty_in i (None ∷ ways) = Some i
-empty_in i (Some way ∷ ways) = empty_in (i + 1) ways
-
 -- whether a fence of a space or all, at a page or all, is for a way
 abbrev pub matches : Option ℕ → ℕ → Bool
 matches None n = true
 matches (Some m) n = n == m
 
 abbrev pub covers : Option ℕ → Option ℕ → Way → Bool
-covers space page way = matches space way.space && matches page way.page
+covers space page way = matches space way.of.space && matches page way.of.page
 
 -- what a fence leaves of a way
 abbrev pub spared : Option ℕ → Option ℕ → Option Way → Option Way

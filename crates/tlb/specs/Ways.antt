@@ -7,10 +7,10 @@ use Rattle.tlb.specs.declared.way.Way.{Way}
 
 abbrev pub way_of : ℕ → ℕ → ℕ → Flags → Way
 way_of space page frame f =
-    record { space = space; page = page; frame = frame; rights = record { r = f.r; w = f.w; x = f.x; u = f.u }; a = f.a; d = f.d }
+    record { of = record { space = space; page = page }; frame = frame; rights = record { r = f.r; w = f.w; x = f.x; u = f.u }; a = f.a; d = f.d }
 
 abbrev pub speaks_for : Way → ℕ → ℕ → Bool
-speaks_for way space page = way.space == space && way.page == page
+speaks_for way space page = way.of.space == space && way.of.page == page
 
 -- a way's flags as those of a valid leaf
 abbrev pub flags_of : Way → Flags

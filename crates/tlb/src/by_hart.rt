@@ -1,9 +1,12 @@
 // A hart's row among those of all.
-ghost use Rattle.std.specs.Prelude.{◌≡◌, ◌^◌, ◌<◌, length, replicate, IfSome, Some, None, slice_set};
+ghost use Rattle.std.specs.Prelude.{◌≡◌, ◌^◌, ◌<◌, replicate, IfSome, Some, None, slice_set};
 ghost use Rattle.tlb.specs.Harts.{rows_of, row_at};
-ghost use Rattle.tlb.specs.Rows.{empty_in, fenced, emptied};
+ghost use Rattle.tlb.specs.Rows.{fenced, emptied};
+ghost use Rattle.tlb.specs.Slots.{empty_slot};
 ghost use Rattle.tlb.specs.Trying.{served, tried};
 
+use crate::hart::HartId;
+use crate::page::{PageId, Scope};
 use crate::row::Row;
 use crate::rows::Rows;
 use crate::way::Way;
@@ -20,45 +23,37 @@ impl Rows {
     }
 
     /// A hart's row, as `Row::try_way` has it.
-    pub fn try_way(
-        &mut self,
-        hart: usize,
-        space: u64,
-        page: u64,
-        access: &Access,
-    ) -> Option<(usize, u64)>
-        requires { hart < 8 }
-        ensures answer { result ≡ served space page access.now (row_at (rows_of self.old) hart) }
-        ensures rows { rows_of self.new ≡ slice_set (rows_of self.old) hart (tried space page access.now (row_at (rows_of self.old) hart)) }
+    pub fn try_way(&mut self, hart: HartId, page: PageId, access: &Access) -> Option<(usize, u64)>
+        ensures answer { result ≡ served page.space page.page access.now (row_at (rows_of self.old) hart.number) }
+        ensures rows { rows_of self.new ≡ slice_set (rows_of self.old) hart.number (tried page.space page.page access.now (row_at (rows_of self.old) hart.number)) }
         ensures within { IfSome result (λ hit. (hit.0 < 16) × (hit.1 < 2 ^ 44)) }
-        ensures each { length (rows_of self.old) ≡ 8 }
     {
-        self.rows[hart].try_way(space, page, access)
+        let rows = &mut self.rows;
+        rows[hart.number].try_way(page, access)
     }
 
     /// The lowest empty way of a hart.
-    pub fn lowest_empty(&self, hart: usize) -> Option<usize>
-        requires { hart < 8 }
-        ensures way { result ≡ empty_in 0 (row_at (rows_of self.now) hart) }
+    pub fn lowest_empty(&self, hart: HartId) -> Option<usize>
+        ensures way { result ≡ empty_slot 0 (row_at (rows_of self.now) hart.number) }
         ensures within { IfSome result (λ way. way < 16) }
     {
-        self.rows[hart].lowest_empty()
+        self.rows[hart.number].lowest_empty()
     }
 
     /// Fills a way of a hart.
-    pub fn put(&mut self, hart: usize, way: usize, held: Way)
-        requires { (hart < 8) × (way < 16) }
-        ensures { rows_of self.new ≡ slice_set (rows_of self.old) hart (slice_set (row_at (rows_of self.old) hart) way (Some held)) }
+    pub fn put(&mut self, hart: HartId, way: usize, held: Way)
+        ensures { rows_of self.new ≡ slice_set (rows_of self.old) hart.number (slice_set (row_at (rows_of self.old) hart.number) way (Some held)) }
     {
-        self.rows[hart].put(way, held);
+        let rows = &mut self.rows;
+        rows[hart.number].put(way, held);
     }
 
     /// A hart's row fenced, as `Row::fence` has it.
-    pub fn fence(&mut self, hart: usize, space: Option<u64>, page: Option<u64>) -> usize
-        requires { hart < 8 }
-        ensures rows { rows_of self.new ≡ slice_set (rows_of self.old) hart (fenced space page (row_at (rows_of self.old) hart)) }
-        ensures count { result ≡ emptied space page (row_at (rows_of self.old) hart) }
+    pub fn fence(&mut self, hart: HartId, scope: Scope) -> usize
+        ensures rows { rows_of self.new ≡ slice_set (rows_of self.old) hart.number (fenced scope.space scope.page (row_at (rows_of self.old) hart.number)) }
+        ensures count { result ≡ emptied scope.space scope.page (row_at (rows_of self.old) hart.number) }
     {
-        self.rows[hart].fence(space, page)
+        let rows = &mut self.rows;
+        rows[hart.number].fence(scope)
     }
 }

@@ -2,7 +2,9 @@
 #![tactic(auto)]
 
 mod by_hart;
+mod hart;
 mod listing;
+mod page;
 mod reading;
 mod row;
 mod rows;
@@ -11,7 +13,9 @@ mod slots;
 mod trying;
 mod way;
 
-pub use row::{Row, is_asked};
+pub use hart::HartId;
+pub use page::{PageId, Scope};
+pub use row::Row;
 pub use rows::Rows;
 pub use slots::lowest_empty;
 pub use way::Way;

@@ -1,4 +1,5 @@
 // A row as makers read it.
+use crate::page::PageId;
 use crate::row::Row;
 use crate::way::Way;
 use std::fmt;
@@ -12,8 +13,7 @@ fn letter(held: bool, letter: char) -> char {
 impl fmt::Display for Way {
     fn fmt<W: fmt::Write>(&self, f: &mut fmt::Formatter<W>) -> fmt::Result {
         let Rights { r, w, x, u } = self.rights;
-        let space = self.space;
-        let page = self.page;
+        let PageId { space, page } = self.of;
         let frame = self.frame;
         let r = letter(r, 'r');
         let w = letter(w, 'w');

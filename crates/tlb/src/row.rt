@@ -1,7 +1,10 @@
 // A row of ways: finding, filling and emptying them.
-ghost use Rattle.std.specs.Prelude.{◌≡◌, ◌<◌, length, replicate, Some, None, slice_set};
-ghost use Rattle.tlb.specs.Rows.{found, empty_in, matches, covered, fenced, emptied};
+ghost use Rattle.std.specs.Prelude.{◌≡◌, length, replicate, Some, None, slice_set};
+ghost use Rattle.tlb.specs.Rows.{found, covered, fenced, emptied};
+ghost use Rattle.tlb.specs.Slots.{empty_slot};
 
+use crate::page::{PageId, Scope};
+use crate::slots::lowest_empty;
 use crate::way::Way;
 
 #[derive(Clone, Copy)]
@@ -10,24 +13,11 @@ pub struct Row {
     ghost full: { length ways ≡ 16 },
 }
 
-/// Whether a number is the one asked for, where one is.
-pub fn is_asked(asked: Option<u64>, number: u64) -> bool
-    ensures { result ≡ matches asked number }
+/// Whether a way is held and a fence is for it.
+fn is_covered(way: Option<Way>, scope: Scope) -> bool
+    ensures { result ≡ covered scope.space scope.page way }
 {
-    match asked {
-        Some(n) => number == n,
-        None => true,
-    }
-}
-
-/// Whether a way is held and for these: a space or all, a page or all.
-fn is_covered(way: Option<Way>, space: Option<u64>, page: Option<u64>) -> bool
-    ensures { result ≡ covered space page way }
-{
-    match way {
-        Some(held) => is_asked(space, held.space) && is_asked(page, held.page),
-        None => false,
-    }
+    way.is_some_and(|held| scope.covers(held.of))
 }
 
 impl Row {
@@ -38,59 +28,51 @@ impl Row {
     }
 
     /// The lowest way for a page of a space.
-    pub fn find(&self, space: u64, page: u64) -> Option<usize>
-        ensures { result ≡ found space page 0 self.now.ways }
+    pub fn find(&self, page: PageId) -> Option<usize>
+        ensures { result ≡ found page.space page.page 0 self.now.ways }
     {
-        for (i, way) in self.ways.iter().enumerate() {
-            if let Some(held) = way {
-                if held.is_for(space, page) {
-                    return Some(i);
-                }
-            }
-        }
-        None
+        self.ways
+            .iter()
+            .position(|way| way.is_some_and(|held| held.is_for(page)))
     }
 
     /// The lowest empty way.
     pub fn lowest_empty(&self) -> Option<usize>
-        ensures { result ≡ empty_in 0 self.now.ways }
+        ensures { result ≡ empty_slot 0 self.now.ways }
     {
-        for (i, way) in self.ways.iter().enumerate() {
-            if way.is_none() {
-                return Some(i);
-            }
-        }
-        None
+        lowest_empty(&self.ways)
     }
 
-    /// Empties the ways for a space or all, at a page or all, and answers how many.
-    pub fn fence(&mut self, space: Option<u64>, page: Option<u64>) -> usize
-        ensures ways { self.new.ways ≡ fenced space page self.old.ways }
-        ensures count { result ≡ emptied space page self.old.ways }
+    /// Empties the ways that a fence is for, and answers how many.
+    pub fn fence(&mut self, scope: Scope) -> usize
+        ensures ways { self.new.ways ≡ fenced scope.space scope.page self.old.ways }
+        ensures count { result ≡ emptied scope.space scope.page self.old.ways }
     {
         let mut count = 0;
-        for i in 0..16 {
-            if is_covered(self.ways[i], space, page) {
-                self.ways[i] = None;
+        for way in &mut self.ways {
+            if is_covered(*way, scope) {
+                *way = None;
                 count += 1;
             }
         }
         count
     }
 
-    /// Fills a way.
+    /// Fills a way, if there is one of that number.
     pub fn put(&mut self, way: usize, held: Way)
-        requires { way < 16 }
         ensures { self.new.ways ≡ slice_set self.old.ways way (Some held) }
     {
-        self.ways[way] = Some(held);
+        if way < self.ways.len() {
+            self.ways[way] = Some(held);
+        }
     }
 
-    /// Empties a way.
+    /// Empties a way, if there is one of that number.
     pub fn clear(&mut self, way: usize)
-        requires { way < 16 }
         ensures { self.new.ways ≡ slice_set self.old.ways way None }
     {
-        self.ways[way] = None;
+        if way < self.ways.len() {
+            self.ways[way] = None;
+        }
     }
 }

@@ -1,8 +1,11 @@
 // The rows of eight harts.
+ghost use Rattle.std.specs.Prelude.{◌≡◌, length};
+
 use crate::row::Row;
 
 /// A row for each hart.
 #[derive(Clone, Copy)]
 pub struct Rows {
     pub rows: [Row; 8],
+    ghost full: { length rows ≡ 8 },
 }

@@ -6,10 +6,5 @@ ghost use Rattle.tlb.specs.Slots.{empty_slot};
 pub fn lowest_empty<T>(slots: &[Option<T>]) -> Option<usize>
     ensures { result ≡ empty_slot 0 slots.now }
 {
-    for (i, slot) in slots.iter().enumerate() {
-        if slot.is_none() {
-            return Some(i);
-        }
-    }
-    None
+    slots.iter().position(|slot| slot.is_none())
 }

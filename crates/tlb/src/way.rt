@@ -2,13 +2,13 @@
 ghost use Rattle.std.specs.Prelude.{◌≡◌};
 ghost use Rattle.tlb.specs.Ways.{speaks_for, flags_of, way_of};
 
+use crate::page::PageId;
 use sv39::{Flags, Rights};
 
 /// A page of a space, the frame that it leads to, and the leaf's R, W, X, U, A and D.
 #[derive(Clone, Copy, PartialEq, Eq, Debug)]
 pub struct Way {
-    pub space: u64,
-    pub page: u64,
+    pub of: PageId,
     pub frame: u64,
     pub rights: Rights,
     pub a: bool,
@@ -17,8 +17,8 @@ pub struct Way {
 
 impl Way {
     /// The way for a page of a space that a leaf with these flags leads to a frame.
-    pub fn new(space: u64, page: u64, frame: u64, flags: Flags) -> Way
-        ensures { result ≡ way_of space page frame flags }
+    pub fn new(of: PageId, frame: u64, flags: Flags) -> Way
+        ensures { result ≡ way_of of.space of.page frame flags }
     {
         let rights = Rights {
             r: flags.r,
@@ -27,8 +27,7 @@ impl Way {
             u: flags.u,
         };
         Way {
-            space,
-            page,
+            of,
             frame,
             rights,
             a: flags.a,
@@ -37,10 +36,10 @@ impl Way {
     }
 
     /// Whether it is for this page of this space.
-    pub fn is_for(&self, space: u64, page: u64) -> bool
-        ensures { result ≡ speaks_for self.now space page }
+    pub fn is_for(&self, page: PageId) -> bool
+        ensures { result ≡ speaks_for self.now page.space page.page }
     {
-        self.space == space && self.page == page
+        self.of == page
     }
 
     /// Its flags as a leaf's, for the rights step and the A/D step.

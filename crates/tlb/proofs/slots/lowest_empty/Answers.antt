@@ -1,14 +1,10 @@
-use Rattle.std.proofs.Common.{sym, ◌∙◌, arith}
-use Rattle.tlb.proofs.Sparse.{empty_here, empty_past, empty_none}
+use Rattle.std.proofs.Common.{◌∙◌, not, is_some, rules, tests}
+use Rattle.std.proofs.lemmas.Iterator.{YieldsList-from_slice}
+use Rattle.std.proofs.lemmas.Iterator.Search.{position_from_yields_List}
+use Rattle.tlb.proofs.Sparse.{empty_slot_is_position}
 use Rattle.tlb.proofs.slots.lowest_empty.Goals as goal
 
-pub loop-i-preserved : goal.loop-i-preserved
-loop-i-preserved g c =
-    sym (empty_past c.args.slots.now c.loop-i.i c.index-slots-i.result (omega arith) c.index-slots-i.is c.if-is_none.ensures) ∙ c.loop-i.invariant
-
 pub returns : goal.returns
-returns g c = sym (empty_none c.args.slots.now c.loop-i.i (omega arith)) ∙ c.loop-i.invariant
-
-pub returns-then-is_none : goal.returns-then-is_none
-returns-then-is_none g c =
-    sym (empty_here c.args.slots.now c.loop-i.i c.index-slots-i.result (omega arith) c.index-slots-i.is c.if-is_none.ensures) ∙ c.loop-i.invariant
+returns g c =
+    position_from_yields_List (λ o. not (is_some o)) _ _ c.position.result c.position.ensures.ran (YieldsList-from_slice c.args.slots.now cc) (λ x b q k. search (rules, tests))
+    ∙ empty_slot_is_position c.args.slots.now

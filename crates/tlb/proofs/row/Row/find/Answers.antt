@@ -1,27 +1,10 @@
-use Rattle.std.proofs.Common.{◌<◌, length, sym, ◌∙◌, arith}
-use Rattle.tlb.proofs.Scans.{found_here, found_past, found_past_empty, found_none}
+use Rattle.std.proofs.Common.{◌∙◌, rules, tests}
+use Rattle.std.proofs.lemmas.Iterator.{YieldsList-from_slice}
+use Rattle.std.proofs.lemmas.Iterator.Search.{position_from_yields_List}
+use Rattle.tlb.proofs.Scans.{holds_for, found_is_position}
 use Rattle.tlb.proofs.row.Row.find.Goals as goal
-use Rattle.tlb.proofs.row.Row.find.Goals.{in-Some+else-is_for, in_default}
-
-pub loop-i-preserved : goal.loop-i-preserved
-loop-i-preserved c =
-    let r = c.args.self.now in
-    let full = r.full in
-    let inside : c.loop-i.i < length r.ways = omega arith in
-    elim c.match-way.branch [
-      | in-Some+else-is_for w ↦ sym (found_past r.ways c.loop-i.i c.args.space c.args.page w.in-Some.held inside w.in-Some.is (sym w.if-is_for.ensures)) ∙ c.loop-i.invariant
-      | in_default w ↦ sym (found_past_empty r.ways c.loop-i.i c.args.space c.args.page inside w.in_default.is) ∙ c.loop-i.invariant
-    ]
 
 pub returns : goal.returns
 returns c =
-    let r = c.args.self.now in
-    let full = r.full in
-    sym (found_none r.ways c.loop-i.i c.args.space c.args.page (omega arith)) ∙ c.loop-i.invariant
-
-pub returns-then-is_for : goal.returns-then-is_for
-returns-then-is_for c =
-    let r = c.args.self.now in
-    let full = r.full in
-    let inside : c.loop-i.i < length r.ways = omega arith in
-    sym (found_here r.ways c.loop-i.i c.args.space c.args.page c.in-Some.held inside c.in-Some.is (sym c.if-is_for.ensures)) ∙ c.loop-i.invariant
+    position_from_yields_List (holds_for c.args.page.space c.args.page.page) _ _ c.position.result c.position.ensures.ran (YieldsList-from_slice c.args.self.now.ways cc) (λ x b q k. search (rules, tests))
+    ∙ found_is_position c.args.page.space c.args.page.page c.args.self.now.ways

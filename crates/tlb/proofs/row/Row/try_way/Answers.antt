@@ -9,7 +9,7 @@ inside : (c : In_ok-way) → c.in_ok-way.way < 16
 inside c =
     let r = c.args.self.now in
     let full = r.full in
-    let l = found_within c.args.space c.args.page 0 r.ways c.in_ok-way.way (sym c.in_ok-way.ensures) in
+    let l = found_within c.args.page.space c.args.page.page 0 r.ways c.in_ok-way.way (sym c.in_ok-way.ensures) in
     omega arith
 
 -- and holds what was read
@@ -17,7 +17,7 @@ holds : (c : In_ok-held) → get_or c.args.self.now.ways c.in_ok-way.way None �
 holds c =
     let r = c.args.self.now in
     let full = r.full in
-    let l = found_within c.args.space c.args.page 0 r.ways c.in_ok-way.way (sym c.in_ok-way.ensures) in
+    let l = found_within c.args.page.space c.args.page.page 0 r.ways c.in_ok-way.way (sym c.in_ok-way.ensures) in
     c.in_ok-held.was
 
 pub offset_bounds-self-way : goal.offset_bounds-self-way
@@ -35,8 +35,8 @@ returns-then-serves c =
     let held = holds (goal.at.returns-then-serves c).In_ok-held in
     let e = sym c.if-serves.ensures in
     record {
-      answer = sym (served_hit c.args.space c.args.page q r.ways c.in_ok-way.way way at held e);
-      ways = sym (tried_hit c.args.space c.args.page q r.ways c.in_ok-way.way way at held e);
+      answer = sym (served_hit c.args.page.space c.args.page.page q r.ways c.in_ok-way.way way at held e);
+      ways = sym (tried_hit c.args.page.space c.args.page.page q r.ways c.in_ok-way.way way at held e);
       within = (inside (goal.at.returns-then-serves c).In_ok-way, omega arith);
     }
 
@@ -55,7 +55,7 @@ returns c =
     let held = holds (goal.at.returns c).In_ok-held in
     let e = sym c.if-serves.ensures in
     record {
-      answer = sym (served_miss c.args.space c.args.page q r.ways c.in_ok-way.way way at held e);
-      ways = sym (tried_miss c.args.space c.args.page q r.ways c.in_ok-way.way way at held e);
+      answer = sym (served_miss c.args.page.space c.args.page.page q r.ways c.in_ok-way.way way at held e);
+      ways = sym (tried_miss c.args.page.space c.args.page.page q r.ways c.in_ok-way.way way at held e);
       within = tt;
     }
