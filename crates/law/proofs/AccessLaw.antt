@@ -52,30 +52,30 @@ seen_map f (e ∷ H) h sp p x =
     (x.0, ⊎_elim (λ y. inl (f e.cells y)) (λ y. inr (more y)) x.1)
 
 -- a list that gave a way gives its frame for each access that the way serves
-gives_walk : (root : ℕ) (way : Way) (q : Access) → serves way q ≡ true → page q.address ≡ way.page → (cells : List ℕ) → Gives root way cells → frame_of (walked cells root q) ≡ Some way.frame
+gives_walk : (root : ℕ) (way : Way) (q : Access) → serves way q ≡ true → page q.address ≡ way.of.page → (cells : List ℕ) → Gives root way cells → frame_of (walked cells root q) ≡ Some way.frame
 gives_walk root way q may p cells G =
     let t = G.t in
-    let tells = serves_tells t.leaf.flags q way.space way.page t.frame (subst (λ (w : Way). serves w q ≡ true) G.is may) in
+    let tells = serves_tells t.leaf.flags q way.of.space way.of.page t.frame (subst (λ (w : Way). serves w q ≡ true) G.is may) in
     let inside : doubleword_of t.frame q.address < length cells = omega (arith, G.room, G.frame) in
     ap frame_of (leaf_serves cells root G.q q t G.walk (p ∙ sym G.same_page) tells.0 tells.1 inside) ∙ ap Some G.frame
 
 module _ (H : History) (s : State) (g : Good H s) where
-  way_put : (h : ℕ) (way : Way) → WayGood H s.debts.slots g.at g.held h way → PutSince H way.space way.page way.frame
+  way_put : (h : ℕ) (way : Way) → WayGood H s.debts.slots g.at g.held h way → PutSince H way.of.space way.of.page way.frame
   way_put h way w =
       ⊎_elim
-      (λ (y : LeafHome g.at g.held way.space way.page way.frame).
-      g.leaf_put_is way.frame y.table (index way.page 0) way.space (index way.page 2) (index way.page 1) way.page y.there y.place w.paged refl refl refl)
-      (λ (y : Late s.debts.slots g.held h way.space way.page way.frame).
-      subst (λ (n : ℕ). PutSince H way.space n way.frame) y.at_page
-      (subst (λ (n : ℕ). PutSince H n y.debt.page way.frame) y.space (g.debt_put y.slot y.debt way.frame y.open_in y.frame))) w.home
+      (λ (y : LeafHome g.at g.held way.of.space way.of.page way.frame).
+      g.leaf_put_is way.frame y.table (index way.of.page 0) way.of.space (index way.of.page 2) (index way.of.page 1) way.of.page y.there y.place w.paged refl refl refl)
+      (λ (y : Late s.debts.slots g.held h way.of.space way.of.page way.frame).
+      subst (λ (n : ℕ). PutSince H way.of.space n way.frame) y.at_page
+      (subst (λ (n : ℕ). PutSince H n y.debt.of.page way.frame) y.space (g.debt_put y.slot y.debt way.frame y.open_in y.frame))) w.home
 
   way_lives : (h : ℕ) (way : Way) → WayGood H s.debts.slots g.at g.held h way → Lives s way.frame
   way_lives h way w =
       ⊎_elim
-      (λ (y : LeafHome g.at g.held way.space way.page way.frame).
-      let m = g.tables.mapped way.frame y.table (index way.page 0) y.there in
+      (λ (y : LeafHome g.at g.held way.of.space way.of.page way.frame).
+      let m = g.tables.mapped way.frame y.table (index way.of.page 0) y.there in
       record { inside = m.0; use_of = inl m.1 })
-      (λ (y : Late s.debts.slots g.held h way.space way.page way.frame).
+      (λ (y : Late s.debts.slots g.held h way.of.space way.of.page way.frame).
       let m = g.tables.owed way.frame y.slot y.there in
       record { inside = m.0; use_of = inr m.1 }) w.home
 
@@ -177,12 +177,12 @@ module _ (H : History) (s : State) (g : Good H s) where
         let same = sym (y.frame ∙ mod-eq_of_lt narrow) ∙ ap (λ (f : Found). f.frame) (ok_found _ x (answer_at _ _ _ e h)) in
         let root_is : w.root ≡ r = some_same w.root r (sym w.rooted ∙ ap (λ (n : ℕ). root_in H n) y.space_is ∙ sym (g.roots space) ∙ rooted) in
         let put : PutSince H space (page q.address) way.frame =
-        subst (λ (n : ℕ). PutSince H n (page q.address) way.frame) y.space_is (subst (λ (n : ℕ). PutSince H way.space n way.frame) y.page_is (way_put hart way w)) in
+        subst (λ (n : ℕ). PutSince H n (page q.address) way.frame) y.space_is (subst (λ (n : ℕ). PutSince H way.of.space n way.frame) y.page_is (way_put hart way w)) in
         let seen : SeenSince (λ cells. frame_of (walked cells r q) ≡ Some way.frame) H hart space (page q.address) =
         subst (λ (n : ℕ). SeenSince (λ cells. frame_of (walked cells r q) ≡ Some way.frame) H hart n (page q.address)) y.space_is
-        (subst (λ (n : ℕ). SeenSince (λ cells. frame_of (walked cells r q) ≡ Some way.frame) H hart way.space n) y.page_is
-        (subst (λ (n : ℕ). SeenSince (λ cells. frame_of (walked cells n q) ≡ Some way.frame) H hart way.space way.page) root_is
-        (seen_map (gives_walk w.root way q y.may (sym y.page_is)) H hart way.space way.page w.seen))) in (
+        (subst (λ (n : ℕ). SeenSince (λ cells. frame_of (walked cells r q) ≡ Some way.frame) H hart way.of.space n) y.page_is
+        (subst (λ (n : ℕ). SeenSince (λ cells. frame_of (walked cells n q) ≡ Some way.frame) H hart way.of.space way.of.page) root_is
+        (seen_map (gives_walk w.root way q y.may (sym y.page_is)) H hart way.of.space way.of.page w.seen))) in (
           (subst (PutSince H space (page q.address)) same put, subst (Lives s) same lives),
           inr (subst (λ (n : ℕ). SeenSince (λ cells. frame_of (walked cells r q) ≡ Some n) H hart space (page q.address)) same seen),
         )

@@ -5,7 +5,7 @@ use Rattle.std.proofs.lemmas.Bool.{cases_Bool, cases_eq, cond-true, cond-false, 
 use Rattle.sv39.specs.declared.access.Access.{Access}
 use Rattle.sv39.specs.Address.{canonical, index, page}
 use Rattle.tlb.specs.declared.way.Way.{Way}
-use Rattle.tlb.specs.Rows.{empty_in}
+use Rattle.tlb.specs.Slots.{empty_slot}
 use Rattle.tlb.specs.Trying.{served, tried}
 use Rattle.tlb.specs.Ways.{way_of}
 use Rattle.walker.specs.declared.fault.WalkFault.{WalkFault}
@@ -78,7 +78,7 @@ module _ (s : State) (choice hart space : ℕ) (q : Access) (r : ℕ) (rooted : 
       ∙ ap (λ (k : ℕ). filled_by s choice hart space q (tried space (page q.address) q (row_of s hart)) (walked s.cells k q)) (ap root_in rooted)
       ∙ ap (filled_by s choice hart space q (tried space (page q.address) q (row_of s hart))) e)
   by_walk t n (Ok found) e =
-      fill found (slot_of choice (empty_in 0 (tried space (page q.address) q (row_of s hart)))) e
+      fill found (slot_of choice (empty_slot 0 (tried space (page q.address) q (row_of s hart)))) e
       (cond-true (eqb (q.address % 8) 0) _ _ t ∙ ap (found_by s choice hart space q) n
       ∙ ap (λ (k : ℕ). filled_by s choice hart space q (tried space (page q.address) q (row_of s hart)) (walked s.cells k q)) (ap root_in rooted)
       ∙ ap (filled_by s choice hart space q (tried space (page q.address) q (row_of s hart))) e)

@@ -148,18 +148,18 @@ module _ (H : History) (s : State) (g : Good H s) (space address : ℕ) (leaf : 
     debt_elsewhere : (h k : ℕ) → g.held h ≡ in_debt k → h ≡ f₀ → ⊥
     debt_elsewhere h k e q = leaf_not_debt t (index address 0) k (sym there ∙ ap g.held (sym q) ∙ e)
 
-    way_home : (h : ℕ) (way : Way) → WayGood H s.debts.slots g.at g.held h way → LeafHome g.at owed_held way.space way.page way.frame ⊎ Late (set s.debts.slots n (Some new)) owed_held h way.space way.page way.frame
+    way_home : (h : ℕ) (way : Way) → WayGood H s.debts.slots g.at g.held h way → LeafHome g.at owed_held way.of.space way.of.page way.frame ⊎ Late (set s.debts.slots n (Some new)) owed_held h way.of.space way.of.page way.frame
     way_home h way w =
         ⊎_elim
-        (λ (y : LeafHome g.at g.held way.space way.page way.frame).
+        (λ (y : LeafHome g.at g.held way.of.space way.of.page way.frame).
         ⊎_elim
         (λ (q : way.frame ≡ f₀).
-        let same = leaf_same y.table (index way.page 0) t (index address 0) (sym y.there ∙ ap g.held q ∙ there) in
-        let places = low_same way.space (index way.page 2) (index way.page 1) space (index address 2) (index address 1) (sym y.place ∙ ap g.at same.0 ∙ place) in
-        let pages : address ≡ way.page = page_by_index address way.page tells.paged w.paged (sym places.1) (sym places.2) (sym same.1) in
+        let same = leaf_same y.table (index way.of.page 0) t (index address 0) (sym y.there ∙ ap g.held q ∙ there) in
+        let places = low_same way.of.space (index way.of.page 2) (index way.of.page 1) space (index address 2) (index address 1) (sym y.place ∙ ap g.at same.0 ∙ place) in
+        let pages : address ≡ way.of.page = page_by_index address way.of.page tells.paged w.paged (sym places.1) (sym places.2) (sym same.1) in
         inr (record { slot = n; debt = new; there = ap owed_held q ∙ at_same g.held f₀ (in_debt n); open_in = new_slot; space = sym places.0; at_page = pages; frame = ap Some (sym q); late = zero_unmarked h }))
         (λ (ne : way.frame ≡ f₀ → ⊥). inl (record { table = y.table; there = at_other g.held f₀ (in_debt n) way.frame ne ∙ y.there; place = y.place })) (cases_eq way.frame f₀))
-        (λ (y : Late s.debts.slots g.held h way.space way.page way.frame).
+        (λ (y : Late s.debts.slots g.held h way.of.space way.of.page way.frame).
         inr (record { slot = y.slot; debt = y.debt; there = at_other g.held f₀ (in_debt n) way.frame (debt_elsewhere way.frame y.slot y.there) ∙ y.there; open_in = old_slot y.slot y.debt y.open_in; space = y.space; at_page = y.at_page; frame = y.frame; late = y.late })) w.home
 
     pub unmapped_good : Good H (with_debts s (set s.cells (512 * t + index address 0) 0) (turned s.frames f₀ state.Mapped state.Owed) (opened_at s.debts new (Some n)))
@@ -202,7 +202,7 @@ module _ (H : History) (s : State) (g : Good H s) (space address : ℕ) (leaf : 
               ⊎_elim
               (λ (p : (k ≡ n) × (new ≡ x)).
               let same : f₀ ≡ h = some_same f₀ h (ap (λ (j : Debt). j.frame) p.1 ∙ z) in
-              subst (λ (j : Debt). PutSince H j.space j.page h) p.1
+              subst (λ (j : Debt). PutSince H j.of.space j.of.page h) p.1
               (subst (PutSince H space address) same (g.leaf_put_is f₀ t (index address 0) space (index address 2) (index address 1) address there place tells.paged refl refl refl)))
               (λ (p : (k ≡ n → ⊥) × (get_or s.debts.slots k None ≡ Some x)). g.debt_put k x h p.1 z) (slots_are k x y);
           spaces = g.spaces;

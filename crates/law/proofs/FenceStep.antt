@@ -59,7 +59,7 @@ module _ (H : History) (s : State) (g : Good H s) (hart : ℕ) (space address : 
   slot_is k = map_holds (marked_by hart space at) refl s.debts.slots k
 
   -- a debt after the fence is one before it, but for the mark
-  debt_was : (k : ℕ) (x : Debt) → get_or slots' k None ≡ Some x → (d : Debt) × ((get_or s.debts.slots k None ≡ Some d) × ((x.frame ≡ d.frame) × ((x.space ≡ d.space) × (x.page ≡ d.page))))
+  debt_was : (k : ℕ) (x : Debt) → get_or slots' k None ≡ Some x → (d : Debt) × ((get_or s.debts.slots k None ≡ Some d) × ((x.frame ≡ d.frame) × ((x.of.space ≡ d.of.space) × (x.of.page ≡ d.of.page))))
   debt_was k x y =
       let r = marked_cases hart space at (get_or s.debts.slots k None) x (sym (slot_is k) ∙ y) in (
         r.0,
@@ -67,18 +67,18 @@ module _ (H : History) (s : State) (g : Good H s) (hart : ℕ) (space address : 
           r.1.0,
           ⊎_elim
               (λ (p : (ledger.covers space at r.0 ≡ true) × (x ≡ with_mark hart r.0)).
-              (ap (λ (z : Debt). z.frame) p.1, (ap (λ (z : Debt). z.space) p.1, ap (λ (z : Debt). z.page) p.1)))
+              (ap (λ (z : Debt). z.frame) p.1, (ap (λ (z : Debt). z.of.space) p.1, ap (λ (z : Debt). z.of.page) p.1)))
               (λ (p : (ledger.covers space at r.0 ≡ false) × (x ≡ r.0)).
-              (ap (λ (z : Debt). z.frame) p.1, (ap (λ (z : Debt). z.space) p.1, ap (λ (z : Debt). z.page) p.1))) r.1.1,
+              (ap (λ (z : Debt). z.frame) p.1, (ap (λ (z : Debt). z.of.space) p.1, ap (λ (z : Debt). z.of.page) p.1))) r.1.1,
         ),
       )
 
   covers_other : (h sp p : ℕ) → (h ≡ hart → ⊥) → (eqb hart h && (matches space sp && covers_page (fence_page address) p)) ≡ false
   covers_other h sp p ne = and_left (eqb hart h) _ (ne_eqb hart h (λ q. ne (sym q)))
 
-  covers_spared : (h : ℕ) (way : Way) → covers space at way ≡ false → (eqb hart h && (matches space way.space && covers_page (fence_page address) way.page)) ≡ false
+  covers_spared : (h : ℕ) (way : Way) → covers space at way ≡ false → (eqb hart h && (matches space way.of.space && covers_page (fence_page address) way.of.page)) ≡ false
   covers_spared h way c =
-      ap (λ (o : Option (Option ℕ)). eqb hart h && (matches space way.space && covers_page o way.page)) pages
+      ap (λ (o : Option (Option ℕ)). eqb hart h && (matches space way.of.space && covers_page o way.of.page)) pages
       ∙ and_right (eqb hart h) (covers space at way) c
 
   -- a way after the fence is one before it, and not covered if it is the fenced hart's
@@ -93,7 +93,7 @@ module _ (H : History) (s : State) (g : Good H s) (hart : ℕ) (space address : 
       (λ (ne : h ≡ hart → ⊥).
       (ap (λ (ws : List (Option Way)). get_or ws i None) (sym (get_or-set_other s.rows hart h (fenced space at (row_of s hart)) [] ne)) ∙ x, inl ne)) (cases_eq h hart)
 
-  late_still : (h : ℕ) (way : Way) → ((h ≡ hart → ⊥) ⊎ (covers space at way ≡ false)) → Late s.debts.slots g.held h way.space way.page way.frame → Late slots' g.held h way.space way.page way.frame
+  late_still : (h : ℕ) (way : Way) → ((h ≡ hart → ⊥) ⊎ (covers space at way ≡ false)) → Late s.debts.slots g.held h way.of.space way.of.page way.frame → Late slots' g.held h way.of.space way.of.page way.frame
   late_still h way c y =
       let at_slot = slot_is y.slot ∙ ap (marked_by hart space at) y.open_in in
       ⊎_elim
@@ -104,7 +104,7 @@ module _ (H : History) (s : State) (g : Good H s) (hart : ℕ) (space address : 
       (λ (un : covers space at way ≡ false).
       absurd
       (both_ways (covers space at way) un
-      (ap (λ (k : ℕ). matches space k && matches at way.page) (sym y.space) ∙ ap (λ (k : ℕ). matches space y.debt.space && matches at k) (sym y.at_page) ∙ p.0))) c)
+      (ap (λ (k : ℕ). matches space k && matches at way.of.page) (sym y.space) ∙ ap (λ (k : ℕ). matches space y.debt.of.space && matches at k) (sym y.at_page) ∙ p.0))) c)
       (λ (p : (ledger.covers space at y.debt ≡ false) × (marked_by hart space at (Some y.debt) ≡ Some y.debt)).
       record { slot = y.slot; debt = y.debt; there = y.there; open_in = at_slot ∙ p.1; space = y.space; at_page = y.at_page; frame = y.frame; late = y.late }) (marked_is hart space at y.debt)
 
@@ -131,7 +131,7 @@ module _ (H : History) (s : State) (g : Good H s) (hart : ℕ) (space address : 
               home = ⊎_elim (λ y. inl y) (λ y. inr (late_still h way was.1 y)) w.home;
               root = w.root;
               rooted = w.rooted;
-              seen = (⊎_elim (λ ne. covers_other h way.space way.page ne) (λ c. covers_spared h way c) was.1, inr w.seen);
+              seen = (⊎_elim (λ ne. covers_other h way.of.space way.of.page ne) (λ c. covers_spared h way c) was.1, inr w.seen);
             };
         unmade = λ h i c.
             ap (λ (ws : List (Option Way)). get_or ws i None) (get_or-set_other s.rows hart h (fenced space at (row_of s hart)) [] (λ q. omega arith)) ∙ g.unmade h i c;
@@ -140,8 +140,8 @@ module _ (H : History) (s : State) (g : Good H s) (hart : ℕ) (space address : 
             let r = debt_was k x y in
             inr (
               refl,
-              subst (λ (p : ℕ). PutSince H x.space p f) (sym r.1.1.1.1)
-                  (subst (λ (p : ℕ). PutSince H p r.0.page f) (sym r.1.1.1.0) (g.debt_put k r.0 f r.1.0 (sym r.1.1.0 ∙ z))),
+              subst (λ (p : ℕ). PutSince H x.of.space p f) (sym r.1.1.1.1)
+                  (subst (λ (p : ℕ). PutSince H p r.0.of.page f) (sym r.1.1.1.0) (g.debt_put k r.0 f r.1.0 (sym r.1.1.0 ∙ z))),
             );
         spaces = g.spaces;
         status = g.status;

@@ -77,10 +77,10 @@ module _ (H : History) (s : State) (g : Good H s) (choice : ℕ → ℕ) where
                   paged = w.paged;
                   home =
                       ⊎_elim
-                      (λ z. inl (record { table = z.table; there = z.there; place = kept z.table (g.housed way.frame z.table (index way.page 0) z.there) ∙ z.place }))
+                      (λ z. inl (record { table = z.table; there = z.there; place = kept z.table (g.housed way.frame z.table (index way.of.page 0) z.there) ∙ z.place }))
                       (λ z. inr z) w.home;
                   root = w.root;
-                  rooted = other way.space (old_root way.space w.root w.rooted) ∙ w.rooted;
+                  rooted = other way.of.space (old_root way.of.space w.root w.rooted) ∙ w.rooted;
                   seen = (refl, inr w.seen);
                 };
             unmade = g.unmade;

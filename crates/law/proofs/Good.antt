@@ -28,8 +28,8 @@ pub record Late (slots : List (Option Debt)) (held : ℕ → Holder) (h s p f : 
   pub debt : Debt
   pub there : held f ≡ in_debt slot
   pub open_in : get_or slots slot None ≡ Some debt
-  pub space : debt.space ≡ s
-  pub at_page : debt.page ≡ p
+  pub space : debt.of.space ≡ s
+  pub at_page : debt.of.page ≡ p
   pub frame : debt.frame ≡ Some f
   pub late : bit debt.marks h ≡ false
 
@@ -37,18 +37,18 @@ pub record Late (slots : List (Option Debt)) (held : ℕ → Holder) (h s p f : 
 pub record Gives (root : ℕ) (way : Way) (cells : List ℕ) : Type 0 where
   pub q : Access
   pub t : Translation
-  pub same_page : page q.address ≡ way.page
+  pub same_page : page q.address ≡ way.of.page
   pub walk : walked cells root q ≡ Ok t
   pub frame : t.frame ≡ way.frame
-  pub is : way ≡ way_of way.space way.page t.frame t.leaf.flags
+  pub is : way ≡ way_of way.of.space way.of.page t.frame t.leaf.flags
   pub room : 512 * way.frame + 512 ≤ length cells
 
 pub record WayGood (H : History) (slots : List (Option Debt)) (at : ℕ → Place) (held : ℕ → Holder) (h : ℕ) (way : Way) : Type 0 where
-  pub paged : is_page way.page ≡ true
-  pub home : LeafHome at held way.space way.page way.frame ⊎ Late slots held h way.space way.page way.frame
+  pub paged : is_page way.of.page ≡ true
+  pub home : LeafHome at held way.of.space way.of.page way.frame ⊎ Late slots held h way.of.space way.of.page way.frame
   pub root : ℕ
-  pub rooted : root_in H way.space ≡ Some root
-  pub seen : SeenSince (Gives root way) H h way.space way.page
+  pub rooted : root_in H way.of.space ≡ Some root
+  pub seen : SeenSince (Gives root way) H h way.of.space way.of.page
 
 pub record Good (H : History) (s : State) : Type 0 where
   pub at : ℕ → Place
@@ -62,7 +62,7 @@ pub record Good (H : History) (s : State) : Type 0 where
   pub ways : (h i : ℕ) (way : Way) → get_or (row_of s h) i None ≡ Some way → WayGood H s.debts.slots at held h way
   pub unmade : (h i : ℕ) → s.count ≤ h → get_or (row_of s h) i None ≡ None
   pub leaf_put_is : (f t k sp i j p : ℕ) → held f ≡ in_leaf t k → at t ≡ low sp i j → is_page p ≡ true → index p 2 ≡ i → index p 1 ≡ j → index p 0 ≡ k → PutSince H sp p f
-  pub debt_put : (n : ℕ) (d : Debt) (f : ℕ) → get_or s.debts.slots n None ≡ Some d → d.frame ≡ Some f → PutSince H d.space d.page f
+  pub debt_put : (n : ℕ) (d : Debt) (f : ℕ) → get_or s.debts.slots n None ≡ Some d → d.frame ≡ Some f → PutSince H d.of.space d.of.page f
   pub spaces : (h : ℕ) → h < s.count → (hart_of s h).space ≡ space_in H h
   pub status : (h : ℕ) → h < s.count → ◌≡◌ {A = Bool × Bool} ((hart_of s h).sum, (hart_of s h).mxr) (status_in H h)
   pub roots : (sp : ℕ) → root_of s sp ≡ root_in H sp
@@ -99,8 +99,8 @@ module _ (e : Event) (H : History) (quiet : Quiet e) where
         paged = w.paged;
         home = w.home;
         root = w.root;
-        rooted = root_later way.space ∙ w.rooted;
-        seen = seen_later (Gives w.root way) h way.space way.page w.seen;
+        rooted = root_later way.of.space ∙ w.rooted;
+        seen = seen_later (Gives w.root way) h way.of.space way.of.page w.seen;
       }
 
   unfoldable pub later : (s : State) → Good H s → Good (e ∷ H) s
@@ -117,7 +117,7 @@ module _ (e : Event) (H : History) (quiet : Quiet e) where
         ways = λ h i way x. way_later s.debts.slots g.at g.held h way (g.ways h i way x);
         unmade = g.unmade;
         leaf_put_is = λ f t k sp i j p a b c d x y. put_later sp p f (g.leaf_put_is f t k sp i j p a b c d x y);
-        debt_put = λ n d f a b. put_later d.space d.page f (g.debt_put n d f a b);
+        debt_put = λ n d f a b. put_later d.of.space d.of.page f (g.debt_put n d f a b);
         spaces = λ h l. g.spaces h l ∙ sym (space_later h);
         status = λ h l. g.status h l ∙ sym (status_later h);
         roots = λ sp. g.roots sp ∙ sym (root_later sp);
@@ -153,7 +153,7 @@ moved H s g cells v at' tables sound kept =
           let w = g.ways h i way x in
           record {
             paged = w.paged;
-            home = ⊎_elim (λ y. inl (home_kept way.space way.page way.frame y)) (λ y. inr y) w.home;
+            home = ⊎_elim (λ y. inl (home_kept way.of.space way.of.page way.frame y)) (λ y. inr y) w.home;
             root = w.root;
             rooted = w.rooted;
             seen = w.seen;

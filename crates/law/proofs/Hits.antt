@@ -33,8 +33,8 @@ found_for space page i (Some x ∷ ways) n e =
 pub record Hit (space page : ℕ) (q : Access) (ways : List (Option Way)) (hit : ℕ × ℕ) : Type 0 where
   pub way : Way
   pub there : get_or ways hit.0 None ≡ Some way
-  pub space_is : way.space ≡ space
-  pub page_is : way.page ≡ page
+  pub space_is : way.of.space ≡ space
+  pub page_is : way.of.page ≡ page
   pub may : serves way q ≡ true
   pub frame : hit.1 ≡ way.frame % 2 ^ 44
 
@@ -53,8 +53,8 @@ module _ (space page : ℕ) (q : Access) (ways : List (Option Way)) where
       record {
         way = way;
         there = ap (λ (x : ℕ × ℕ). get_or ways x.0 None) (sym same) ∙ there;
-        space_is = eqb-true way.space space speaks.0;
-        page_is = eqb-true way.page page speaks.1;
+        space_is = eqb-true way.of.space space speaks.0;
+        page_is = eqb-true way.of.page page speaks.1;
         may = t;
         frame = ap (λ (x : ℕ × ℕ). x.1) (sym same);
       })

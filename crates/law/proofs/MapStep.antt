@@ -64,7 +64,7 @@ module _ (H : History) (s : State) (g : Good H s) (t f sp p : ℕ) (rights : Rig
               paged = w.paged;
               home =
                   ⊎_elim
-                  (λ y. inl (record { table = y.table; there = kept_leaf way.frame y.table (index way.page 0) y.there ∙ y.there; place = y.place }))
+                  (λ y. inl (record { table = y.table; there = kept_leaf way.frame y.table (index way.of.page 0) y.there ∙ y.there; place = y.place }))
                   (λ y. inr (record { slot = y.slot; debt = y.debt; there = kept_debt way.frame y.slot y.there ∙ y.there; open_in = y.open_in; space = y.space; at_page = y.at_page; frame = y.frame; late = y.late }))
                   w.home;
               root = w.root;

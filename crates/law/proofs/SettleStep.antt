@@ -96,8 +96,8 @@ module _ (H : History) (s : State) (g : Good H s) (i : ℕ) (d : Debt) (there : 
 
     no_way : (h j : ℕ) (way : Way) → get_or (row_of s h) j None ≡ Some way → way.frame ≡ f → ⊥
     no_way h j way x q =
-        ⊎_elim (λ (y : LeafHome g.at g.held way.space way.page way.frame). leaf_elsewhere way.frame y.table (index way.page 0) y.there q)
-        (λ (y : Late s.debts.slots g.held h way.space way.page way.frame).
+        ⊎_elim (λ (y : LeafHome g.at g.held way.of.space way.of.page way.frame). leaf_elsewhere way.frame y.table (index way.of.page 0) y.there q)
+        (λ (y : Late s.debts.slots g.held h way.of.space way.of.page way.frame).
         let same = same_debt y.slot y.debt y.open_in (debt_is way.frame y.slot y.there q) in
         ⊎_elim
         (λ (l : h < s.count).

@@ -4,7 +4,7 @@ use Rattle.std.proofs.lemmas.List.{get_or-set_same, set-set}
 use Rattle.sv39.specs.declared.access.Access.{Access}
 use Rattle.sv39.specs.Address.{page}
 use Rattle.tlb.specs.declared.way.Way.{Way}
-use Rattle.tlb.specs.Rows.{empty_in}
+use Rattle.tlb.specs.Slots.{empty_slot}
 use Rattle.tlb.specs.Ways.{way_of}
 use Rattle.walker.specs.declared.fault.WalkFault.{WalkFault}
 use Rattle.walker.specs.declared.walking.Translation.{Translation}
@@ -24,8 +24,8 @@ module _ (s : State) (choice hart space : ℕ) (q : Access) (row : List (Option 
   again (Err fault) =
       ap (λ (rows : List (List (Option Way))). ((filled_by s choice hart space q row (Err fault)).0, with_rows rows s.last)) (set-set s.rows hart row row)
   again (Ok t) =
-      ap (λ (rows : List (List (Option Way))). ((filled_at s hart space q row t (slot_of choice (empty_in 0 row))).0, with_rows rows (touched s hart (slot_of choice (empty_in 0 row)))))
-      (set-set s.rows hart row (set row (slot_of choice (empty_in 0 row)) (Some (way_of space (page q.address) t.frame t.leaf.flags))))
+      ap (λ (rows : List (List (Option Way))). ((filled_at s hart space q row t (slot_of choice (empty_slot 0 row))).0, with_rows rows (touched s hart (slot_of choice (empty_slot 0 row)))))
+      (set-set s.rows hart row (set row (slot_of choice (empty_slot 0 row)) (Some (way_of space (page q.address) t.frame t.leaf.flags))))
 
   -- what is filled after a row was tried is the row as it was tried, filled
   pub filled_after_tried : hart < length s.rows → filled tried_state choice hart space q (row_of tried_state hart) ≡ filled s choice hart space q row

@@ -5,7 +5,7 @@ use Rattle.sv39.specs.declared.access.Kind.{Kind}
 use Rattle.sv39.specs.declared.access.Kind.TheVariants as kind
 use Rattle.sv39.specs.Address.{page, doubleword_of}
 use Rattle.tlb.specs.declared.way.Way.{Way}
-use Rattle.tlb.specs.Rows.{empty_in}
+use Rattle.tlb.specs.Slots.{empty_slot}
 use Rattle.tlb.specs.Trying.{served, tried}
 use Rattle.tlb.specs.Ways.{way_of}
 use Rattle.walker.specs.declared.fault.WalkFault.{WalkFault}
@@ -59,7 +59,7 @@ filled_at s hart space q row t way = (
 -- without a hit the hart walks; the row has been tried
 abbrev pub filled_by : State → ℕ → ℕ → ℕ → Access → List (Option Way) → Result Translation WalkFault → Result Found Cause × State
 filled_by s choice hart space q row (Err fault) = (Err (Walk fault), with_row s hart row s.last)
-filled_by s choice hart space q row (Ok t) = filled_at s hart space q row t (slot_of choice (empty_in 0 row))
+filled_by s choice hart space q row (Ok t) = filled_at s hart space q row t (slot_of choice (empty_slot 0 row))
 
 -- the root that a hart walks from (a hart is in a space that stands)
 abbrev pub root_in : Option ℕ → ℕ

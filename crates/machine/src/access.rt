@@ -1,10 +1,11 @@
 // Accesses: a hit in the hart's ways, or a walk that fills one.
 ghost use Rattle.std.specs.Prelude.{◌≡◌, ◌^◌, ◌<◌, IfOk, Some, slice_set};
 ghost use Rattle.tlb.specs.Harts.{rows_of, row_at};
-ghost use Rattle.tlb.specs.Rows.{empty_in};
+ghost use Rattle.tlb.specs.Slots.{empty_slot};
 ghost use Rattle.machine.specs.Accesses.{kind_of, access_of, slot_of, word_of, stored, find_step, filled, access_step};
-ghost use Rattle.machine.specs.State.{state_of, eight, row_of, Did};
+ghost use Rattle.machine.specs.State.{eight, row_of, Did};
 
+use crate::asking::page_in;
 use crate::hart::Hart;
 use crate::machine::Machine;
 use crate::refusal::{Cause, HartFault, Refusal};
@@ -12,7 +13,7 @@ use memory::Memory;
 use policy::Policy;
 use sv39::{Access, Kind, Mode, page_of};
 use tables::{put_word, word_at};
-use tlb::{Rows, Way};
+use tlb::{HartId, Rows, Way};
 use walker::walk;
 
 /// What an access does with its doubleword.
@@ -54,7 +55,8 @@ pub struct Found {
 }
 
 impl Action {
-    fn kind(self) -> Kind
+    /// Its kind, as the walk asks for it.
+    pub fn kind(self) -> Kind
         ensures { result ≡ kind_of self }
     {
         match self {
@@ -81,26 +83,22 @@ impl Request {
 }
 
 /// Tells the policy that a hart used a way.
-fn touch<P: Policy>(policy: &mut P, hart: usize, way: usize)
-    requires { (hart < 8) × (way < 16) }
-    ensures { eight (P.Policy.last policy.new) ≡ slice_set (eight (P.Policy.last policy.old)) hart (Some way) }
+fn touch<P: Policy>(policy: &mut P, hart: HartId, way: usize)
+    requires { way < 16 }
+    ensures { eight (P.Policy.last policy.new) ≡ slice_set (eight (P.Policy.last policy.old)) hart.number (Some way) }
 {
-    let _ = policy.touch(hart, way);
+    let _ = policy.touch(hart.number, way);
 }
 
 /// The way of a hart to fill: the lowest empty one, else the policy's pick.
-fn slot_of<P: Policy>(policy: &mut P, rows: &Rows, hart: usize) -> usize
-    requires { hart < 8 }
-    ensures way { result ≡ slot_of (P.Policy.choice policy.old hart) (empty_in 0 (row_at (rows_of rows.now) hart)) }
+fn slot_of<P: Policy>(policy: &mut P, rows: &Rows, hart: HartId) -> usize
+    ensures way { result ≡ slot_of (P.Policy.choice policy.old hart.number) (empty_slot 0 (row_at (rows_of rows.now) hart.number)) }
     ensures within { result < 16 }
     ensures last { eight (P.Policy.last policy.new) ≡ eight (P.Policy.last policy.old) }
 {
-    if let Some(way) = rows.lowest_empty(hart) {
-        return way;
-    }
-    match policy.pick(hart) {
-        Ok(way) => way,
-        Err(_) => unreachable(),
+    match rows.lowest_empty(hart) {
+        Some(way) => way,
+        None => policy.pick(hart.number).unwrap(),
     }
 }
 
@@ -120,16 +118,15 @@ fn transfer<M: Memory>(memory: &mut M, place: u64, action: Action) -> Option<u64
 
 impl<M: Memory, P: Policy> Machine<M, P> {
     /// Walks for an access of a hart in a space, and fills a way with what was found.
-    fn fill(&mut self, hart: usize, space: usize, access: &Access) -> Result<Found, Cause>
-        requires { hart < 8 }
-        ensures step { Did (filled (state_of M.Memory.cells P.Policy.last self.old) (P.Policy.choice self.old.policy hart) hart space access.now (row_of (state_of M.Memory.cells P.Policy.last self.old) hart)) result (state_of M.Memory.cells P.Policy.last self.new) }
+    fn fill(&mut self, hart: HartId, space: usize, access: &Access) -> Result<Found, Cause>
+        ensures step { Did (filled self.old.state (P.Policy.choice self.old.policy hart.number) hart.number space access.now (row_of self.old.state hart.number)) result self.new.state }
         ensures within { IfOk result (λ found. found.frame < 2 ^ 44) }
     {
         let root = self.core.walk_root(space);
         let found = walk(&self.memory, root, access)?;
         let way = slot_of(&mut self.policy, &self.core.rows, hart);
-        let page = page_of(access.address);
-        let held = Way::new(space as u64, page, found.frame, found.leaf.flags);
+        let page = page_in(space, page_of(access.address));
+        let held = Way::new(page, found.frame, found.leaf.flags);
         self.core.rows.put(hart, way, held);
         touch(&mut self.policy, hart, way);
         Ok(Found {
@@ -140,16 +137,15 @@ impl<M: Memory, P: Policy> Machine<M, P> {
 
     /// Where an access of a hart in a space comes to: by a hit, which is touched, or by a walk. Refuses 30, then the
     /// walk's.
-    fn find(&mut self, hart: usize, space: usize, access: &Access) -> Result<Found, Cause>
-        requires { hart < 8 }
-        ensures step { Did (find_step (state_of M.Memory.cells P.Policy.last self.old) (P.Policy.choice self.old.policy hart) hart space access.now) result (state_of M.Memory.cells P.Policy.last self.new) }
+    fn find(&mut self, hart: HartId, space: usize, access: &Access) -> Result<Found, Cause>
+        ensures step { Did (find_step self.old.state (P.Policy.choice self.old.policy hart.number) hart.number space access.now) result self.new.state }
         ensures within { IfOk result (λ found. found.frame < 2 ^ 44) }
     {
         if access.address % 8 != 0 {
             return Err(Cause::Misaligned);
         }
-        let page = page_of(access.address);
-        match self.core.rows.try_way(hart, space as u64, page, access) {
+        let page = page_in(space, page_of(access.address));
+        match self.core.rows.try_way(hart, page, access) {
             Some((way, frame)) => {
                 touch(&mut self.policy, hart, way);
                 Ok(Found { frame, by: By::Hit })
@@ -160,17 +156,13 @@ impl<M: Memory, P: Policy> Machine<M, P> {
 
     /// Moves one doubleword for a hart in the space that it is in. Refuses 10, 12, 30, then the walk's.
     pub fn access(&mut self, hart: usize, request: &Request) -> Result<Reached, Refusal>
-        ensures { Did (access_step (state_of M.Memory.cells P.Policy.last self.old) (P.Policy.choice self.old.policy hart) hart request.now) result (state_of M.Memory.cells P.Policy.last self.new) }
+        ensures { Did (access_step self.old.state (P.Policy.choice self.old.policy hart) hart request.now) result self.new.state }
     {
-        if hart >= self.core.count {
-            return Err(Refusal::NoHart);
-        }
-        let status = self.core.harts[hart];
-        let Some(space) = status.space else {
-            return Err(Refusal::InNoSpace);
-        };
+        let id = self.core.hart_id(hart)?;
+        let status = self.core.harts[id.number];
+        let space = status.space.ok_or(Refusal::InNoSpace)?;
         let access = request.access(status);
-        match self.find(hart, space, &access) {
+        match self.find(id, space, &access) {
             Ok(found) => {
                 let place = 512 * found.frame + access.address / 8 % 512;
                 let word = transfer(&mut self.memory, place, request.action);

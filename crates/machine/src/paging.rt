@@ -1,16 +1,17 @@
 // The calls on frames, spaces and pages.
 ghost use Rattle.std.specs.Prelude.{◌≡◌};
-ghost use Rattle.machine.specs.Pages.{space_step, grant_step, back_step, map_allowed, map_step, protect_allowed, protect_step, unmap_allowed, unmap_step};
-ghost use Rattle.machine.specs.State.{state_of, Did};
+ghost use Rattle.machine.specs.Pages.{space_step, grant_step, back_step, leaf_or, leaf_below, map_allowed, map_step, protect_allowed, protect_step, unmap_allowed, unmap_step};
+ghost use Rattle.machine.specs.State.{Did};
 
+use crate::asking::page_in;
 use crate::machine::Machine;
 use crate::refusal::Refusal;
 use crate::rights::{is_due, is_valid};
-use frames::FrameState;
+use frames::{FrameState, Use};
 use memory::Memory;
 use policy::Policy;
-use sv39::{Entry, Rights};
-use tables::{Leaf, clear_frame, grow, leaf_at, missing_tables, put_leaf, put_word};
+use sv39::{Entry, Level, Rights};
+use tables::{Leaf, Tables, clear_frame, grow, put_leaf, put_word};
 use tlb::lowest_empty;
 
 /// What protect answers: the leaf with its rights changed, and the debt if one arose.
@@ -30,14 +31,10 @@ pub struct Unmapped {
 impl<M: Memory, P: Policy> Machine<M, P> {
     /// A new space with an empty root table; answers its number. Refuses 13, 14.
     pub fn space(&mut self) -> Result<usize, Refusal>
-        ensures { Did (space_step (state_of M.Memory.cells P.Policy.last self.old)) result (state_of M.Memory.cells P.Policy.last self.new) }
+        ensures { Did (space_step self.old.state) result self.new.state }
     {
-        let Some(number) = lowest_empty(&self.core.roots) else {
-            return Err(Refusal::SpacesFull);
-        };
-        let Some(frame) = self.core.pool.take_number(FrameState::Table) else {
-            return Err(Refusal::NoFrame);
-        };
+        let number = lowest_empty(&self.core.roots).ok_or(Refusal::SpacesFull)?;
+        let frame = self.core.pool.take(Use::Table).ok_or(Refusal::NoFrame)?;
         clear_frame(&mut self.memory, frame);
         self.core.roots[number] = Some(frame);
         Ok(number)
@@ -45,24 +42,42 @@ impl<M: Memory, P: Policy> Machine<M, P> {
 
     /// A frame to hold, filled with zeros. Refuses 14.
     pub fn grant(&mut self) -> Result<u64, Refusal>
-        ensures { Did (grant_step (state_of M.Memory.cells P.Policy.last self.old)) result (state_of M.Memory.cells P.Policy.last self.new) }
+        ensures { Did (grant_step self.old.state) result self.new.state }
     {
-        let Some(held) = self.core.pool.take_number(FrameState::Held) else {
-            return Err(Refusal::NoFrame);
-        };
+        let held = self.core.pool.take(Use::Held).ok_or(Refusal::NoFrame)?;
         clear_frame(&mut self.memory, held);
-        Ok(held as u64)
+        Ok(u64::from(held))
     }
 
     /// Gives a held frame back. Refuses 15.
     pub fn back(&mut self, frame: u64) -> Result<(), Refusal>
-        ensures { Did (back_step (state_of M.Memory.cells P.Policy.last self.old) frame) result (state_of M.Memory.cells P.Policy.last self.new) }
+        ensures { Did (back_step self.old.state frame) result self.new.state }
     {
-        if self.core.pool.free(frame, FrameState::Held) {
+        if self.core.pool.free(frame, Use::Held) {
             Ok(())
         } else {
             Err(Refusal::NotHeld)
         }
+    }
+
+    /// The tables below a root.
+    fn tables(&self, root: u16) -> Tables<'_, M>
+        ensures memory { M.Memory.cells result.memory.now ≡ self.now.state.cells }
+        ensures limit { result.limit ≡ self.now.state.frames.limit }
+        ensures root { result.root ≡ root }
+    {
+        Tables {
+            memory: &self.memory,
+            limit: self.core.pool.limit,
+            root,
+        }
+    }
+
+    /// The leaf of a page below a root. Refuses 19.
+    fn mapped(&self, root: u16, address: u64) -> Result<Leaf, Refusal>
+        ensures { result ≡ leaf_or (leaf_below self.now.state root address) }
+    {
+        self.tables(root).leaf(address).ok_or(Refusal::NotMapped)
     }
 
     /// The root below which a frame may be mapped, and the frame. Refuses 11, 16, 17, 15, 18, 14.
@@ -73,20 +88,19 @@ impl<M: Memory, P: Policy> Machine<M, P> {
         frame: u64,
         rights: Rights,
     ) -> Result<(u16, u16), Refusal>
-        ensures { result ≡ map_allowed (state_of M.Memory.cells P.Policy.last self.now) space address frame rights }
+        ensures { result ≡ map_allowed self.now.state space address frame rights }
     {
         let root = self.core.locate(space, address)?;
         if !is_valid(rights) {
             return Err(Refusal::BadRights);
         }
         let pool = &self.core.pool;
-        let Some(held) = pool.find(frame, FrameState::Held) else {
-            return Err(Refusal::NotHeld);
-        };
-        if leaf_at(&self.memory, pool.limit, root as u64, address).is_some() {
+        let held = pool.find(frame, FrameState::Held).ok_or(Refusal::NotHeld)?;
+        let tables = self.tables(root);
+        if tables.leaf(address).is_some() {
             return Err(Refusal::Mapped);
         }
-        if pool.available() < missing_tables(&self.memory, pool.limit, root as u64, address) {
+        if pool.available() < tables.missing(address) {
             return Err(Refusal::NoFrame);
         }
         Ok((root, held))
@@ -100,36 +114,26 @@ impl<M: Memory, P: Policy> Machine<M, P> {
         frame: u64,
         rights: Rights,
     ) -> Result<u64, Refusal>
-        ensures { Did (map_step (state_of M.Memory.cells P.Policy.last self.old) space address frame rights) result (state_of M.Memory.cells P.Policy.last self.new) }
+        ensures { Did (map_step self.old.state space address frame rights) result self.new.state }
     {
         let (root, held) = self.allow_map(space, address, frame, rights)?;
-        let mid = grow(
-            &mut self.memory,
-            &mut self.core.pool,
-            root as u64,
-            address,
-            2,
-        );
-        let low = grow(&mut self.memory, &mut self.core.pool, mid.table, address, 1);
+        let pool = &mut self.core.pool;
+        let mid = grow(&mut self.memory, pool, root, address, Level::Two);
+        let low = grow(&mut self.memory, pool, mid.table, address, Level::One);
         put_leaf(&mut self.memory, low.table, address, held, rights);
-        self.core
-            .pool
-            .turn(held as u64, FrameState::Held, FrameState::Mapped);
+        pool.turn(u64::from(held), Use::Held, Use::Mapped);
         Ok(mid.count + low.count)
     }
 
     /// The leaf of a page whose rights may change. Refuses 11, 16, 17, 19.
     fn allow_protect(&self, space: usize, address: u64, rights: Rights) -> Result<Leaf, Refusal>
-        ensures { result ≡ protect_allowed (state_of M.Memory.cells P.Policy.last self.now) space address rights }
+        ensures { result ≡ protect_allowed self.now.state space address rights }
     {
         let root = self.core.locate(space, address)?;
         if !is_valid(rights) {
             return Err(Refusal::BadRights);
         }
-        match leaf_at(&self.memory, self.core.pool.limit, root as u64, address) {
-            Some(leaf) => Ok(leaf),
-            None => Err(Refusal::NotMapped),
-        }
+        self.mapped(root, address)
     }
 
     /// Gives a page other rights; a debt arises if one is taken away or U changes. Refuses 11, 16, 17, 19, and 20 if a
@@ -140,48 +144,38 @@ impl<M: Memory, P: Policy> Machine<M, P> {
         address: u64,
         rights: Rights,
     ) -> Result<Protected, Refusal>
-        ensures { Did (protect_step (state_of M.Memory.cells P.Policy.last self.old) space address rights) result (state_of M.Memory.cells P.Policy.last self.new) }
+        ensures { Did (protect_step self.old.state space address rights) result self.new.state }
     {
         let (place, old) = self.allow_protect(space, address, rights)?;
         let leaf = old.with_flags(rights.leaf_flags());
-        if !is_due(old.flags, rights) {
-            put_word(&mut self.memory, place, leaf.pack());
-            return Ok(Protected { leaf, debt: None });
-        }
-        let Some(number) = self.core.debts.open(space as u64, address, None) else {
-            return Err(Refusal::DebtsFull);
+        let debt = if is_due(old.flags, rights) {
+            let page = page_in(space, address);
+            Some(self.core.debts.open(page, None).ok_or(Refusal::DebtsFull)?)
+        } else {
+            None
         };
         put_word(&mut self.memory, place, leaf.pack());
-        Ok(Protected {
-            leaf,
-            debt: Some(number),
-        })
+        Ok(Protected { leaf, debt })
     }
 
     /// The leaf of a page that may be unmapped. Refuses 11, 16, 19.
     fn allow_unmap(&self, space: usize, address: u64) -> Result<Leaf, Refusal>
-        ensures { result ≡ unmap_allowed (state_of M.Memory.cells P.Policy.last self.now) space address }
+        ensures { result ≡ unmap_allowed self.now.state space address }
     {
         let root = self.core.locate(space, address)?;
-        match leaf_at(&self.memory, self.core.pool.limit, root as u64, address) {
-            Some(leaf) => Ok(leaf),
-            None => Err(Refusal::NotMapped),
-        }
+        self.mapped(root, address)
     }
 
     /// Unmaps a page: its frame is owed until the debt that arises is settled. Refuses 11, 16, 19, 20.
     pub fn unmap(&mut self, space: usize, address: u64) -> Result<Unmapped, Refusal>
-        ensures { Did (unmap_step (state_of M.Memory.cells P.Policy.last self.old) space address) result (state_of M.Memory.cells P.Policy.last self.new) }
+        ensures { Did (unmap_step self.old.state space address) result self.new.state }
     {
         let (place, leaf) = self.allow_unmap(space, address)?;
         let frame = leaf.ppn;
-        let Some(debt) = self.core.debts.open(space as u64, address, Some(frame)) else {
-            return Err(Refusal::DebtsFull);
-        };
+        let page = page_in(space, address);
+        let debt = self.core.debts.open(page, Some(frame)).ok_or(Refusal::DebtsFull)?;
         put_word(&mut self.memory, place, 0);
-        self.core
-            .pool
-            .turn(frame, FrameState::Mapped, FrameState::Owed);
+        self.core.pool.turn(frame, Use::Mapped, Use::Owed);
         Ok(Unmapped { debt, frame })
     }
 }

@@ -4,18 +4,20 @@ ghost use Rattle.machine.specs.declared.refusal.Cause.TheVariants.{Walk};
 ghost use Rattle.machine.specs.Refusals.{fault_report, number_of, unsettled};
 
 use debts::Unsettled;
-use std::error::Error;
-use std::fmt;
 use sv39::Kind;
+use thiserror::Error;
 use walker::{Report, WalkFault};
 
 /// Why an access faults: its address is no multiple of 8, or the walk's fault.
-#[derive(Clone, Copy, PartialEq, Eq, Debug)]
+#[derive(Clone, Copy, PartialEq, Eq, Debug, Error)]
 pub enum Cause {
+    #[error("30: the address is no multiple of 8")]
     Misaligned,
+    #[error("{0}")]
     Walk(WalkFault),
 }
 
+// `From` by hand, as a contract names what `?` makes, and the derive of it has none.
 impl From<WalkFault> for Cause {
     ghost from_gives = { λ f r. r ≡ Walk f };
 
@@ -25,7 +27,8 @@ impl From<WalkFault> for Cause {
 }
 
 /// The fault of a hart's access.
-#[derive(Clone, Copy, PartialEq, Eq, Debug)]
+#[derive(Clone, Copy, PartialEq, Eq, Debug, Error)]
+#[error("{cause} (hart {hart}, {kind} at {address:#x})")]
 pub struct HartFault {
     pub hart: usize,
     pub kind: Kind,
@@ -42,9 +45,7 @@ impl HartFault {
             Cause::Misaligned => Report {
                 number: 30,
                 code: Some(self.kind.misaligned_fault()),
-                level: None,
-                entry: None,
-                beyond: None,
+                ..Report::default()
             },
             Cause::Walk(fault) => fault.report(),
         }
@@ -52,39 +53,44 @@ impl HartFault {
 }
 
 /// Why a call is refused.
-#[derive(Clone, Copy, PartialEq, Eq, Debug)]
+#[derive(Clone, Copy, PartialEq, Eq, Debug, Error)]
 pub enum Refusal {
-    /// The memory has under 2,048 doublewords.
+    #[error("4: the memory has under 2048 doublewords")]
     TooSmall,
-    /// The count of harts is not 1 to 8.
+    #[error("5: the count of harts is not 1 to 8")]
     HartCount,
-    /// There is no such hart.
+    #[error("10: no such hart")]
     NoHart,
-    /// There is no such space.
+    #[error("11: no such space")]
     NoSpace,
-    /// The hart is in no space.
+    #[error("12: the hart is in no space")]
     InNoSpace,
-    /// Eight spaces stand.
+    #[error("13: eight spaces stand")]
     SpacesFull,
-    /// Too few frames are free.
+    #[error("14: too few frames are free")]
     NoFrame,
-    /// The frame is not held.
+    #[error("15: the frame is not held")]
     NotHeld,
     /// The address is not canonical, or no multiple of 4,096.
+    #[error("16: the address is not that of a page")]
     NotAPage,
     /// W without R, or none of R, W and X.
+    #[error("17: W without R, or no right")]
     BadRights,
-    /// The page is mapped.
+    #[error("18: the page is mapped")]
     Mapped,
-    /// The page is not mapped.
+    #[error("19: the page is not mapped")]
     NotMapped,
     /// 64 debts are open, or 2^32 were numbered.
+    #[error("20: no debt can be opened")]
     DebtsFull,
-    /// The debt is not open.
+    #[error("21: the debt is not open")]
     NotOpen,
     /// This hart, the lowest such, is not marked on the debt.
+    #[error("22: hart {0} has not fenced since")]
     Unmarked(usize),
     /// The access faults.
+    #[error("{0}")]
     Fault(HartFault),
 }
 
@@ -124,41 +130,3 @@ impl Refusal {
         }
     }
 }
-
-impl fmt::Display for HartFault {
-    fn fmt<W: fmt::Write>(&self, f: &mut fmt::Formatter<W>) -> fmt::Result {
-        let hart = self.hart;
-        let kind = self.kind;
-        let address = self.address;
-        match self.cause {
-            Cause::Misaligned => f.write_str("30: the address is no multiple of 8")?,
-            Cause::Walk(fault) => write!(f, "{fault}")?,
-        }
-        write!(f, " (hart {hart}, {kind} at {address:#x})")
-    }
-}
-
-impl fmt::Display for Refusal {
-    fn fmt<W: fmt::Write>(&self, f: &mut fmt::Formatter<W>) -> fmt::Result {
-        match *self {
-            Refusal::TooSmall => f.write_str("4: the memory has under 2048 doublewords"),
-            Refusal::HartCount => f.write_str("5: the count of harts is not 1 to 8"),
-            Refusal::NoHart => f.write_str("10: no such hart"),
-            Refusal::NoSpace => f.write_str("11: no such space"),
-            Refusal::InNoSpace => f.write_str("12: the hart is in no space"),
-            Refusal::SpacesFull => f.write_str("13: eight spaces stand"),
-            Refusal::NoFrame => f.write_str("14: too few frames are free"),
-            Refusal::NotHeld => f.write_str("15: the frame is not held"),
-            Refusal::NotAPage => f.write_str("16: the address is not that of a page"),
-            Refusal::BadRights => f.write_str("17: W without R, or no right"),
-            Refusal::Mapped => f.write_str("18: the page is mapped"),
-            Refusal::NotMapped => f.write_str("19: the page is not mapped"),
-            Refusal::DebtsFull => f.write_str("20: no debt can be opened"),
-            Refusal::NotOpen => f.write_str("21: the debt is not open"),
-            Refusal::Unmarked(hart) => write!(f, "22: hart {hart} has not fenced since"),
-            Refusal::Fault(fault) => write!(f, "{fault}"),
-        }
-    }
-}
-
-impl Error for Refusal {}

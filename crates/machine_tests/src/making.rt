@@ -45,31 +45,25 @@ pub fn rights(letters: u8) -> Rights {
     }
 }
 
-pub fn load(hart: usize, mode: Mode, address: u64) -> Call {
+fn access(hart: usize, mode: Mode, address: u64, action: Action) -> Call {
     let request = Request {
         mode,
         address,
-        action: Action::Load,
+        action,
     };
     Call::Access { hart, request }
+}
+
+pub fn load(hart: usize, mode: Mode, address: u64) -> Call {
+    access(hart, mode, address, Action::Load)
 }
 
 pub fn fetch(hart: usize, mode: Mode, address: u64) -> Call {
-    let request = Request {
-        mode,
-        address,
-        action: Action::Fetch,
-    };
-    Call::Access { hart, request }
+    access(hart, mode, address, Action::Fetch)
 }
 
 pub fn store(hart: usize, mode: Mode, address: u64, value: u64) -> Call {
-    let request = Request {
-        mode,
-        address,
-        action: Action::Store(value),
-    };
-    Call::Access { hart, request }
+    access(hart, mode, address, Action::Store(value))
 }
 
 pub fn map(space: usize, address: u64, frame: u64, letters: u8) -> Call {

@@ -40,8 +40,7 @@ fn show<M: Memory>(
         address,
         kind,
         mode,
-        sum: _,
-        mxr: _,
+        ..
     } = *access;
     match walk(memory, panel.root, access) {
         Ok(t) => {

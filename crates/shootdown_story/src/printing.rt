@@ -71,24 +71,23 @@ pub fn show_frame<M: Memory, P: Policy>(
     Ok(())
 }
 
-/// A load in user mode.
-pub fn load(hart: usize, address: u64) -> Call {
+fn access(hart: usize, address: u64, action: Action) -> Call {
     let request = Request {
         mode: Mode::User,
         address,
-        action: Action::Load,
+        action,
     };
     Call::Access { hart, request }
 }
 
+/// A load in user mode.
+pub fn load(hart: usize, address: u64) -> Call {
+    access(hart, address, Action::Load)
+}
+
 /// A store in user mode.
 pub fn store(hart: usize, address: u64, value: u64) -> Call {
-    let request = Request {
-        mode: Mode::User,
-        address,
-        action: Action::Store(value),
-    };
-    Call::Access { hart, request }
+    access(hart, address, Action::Store(value))
 }
 
 /// A fence of an address in a space.

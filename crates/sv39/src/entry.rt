@@ -1,8 +1,7 @@
 // A table entry as a record of its fields, each within its width.
 ghost use Rattle.std.specs.Prelude.{◌^◌, ◌<◌};
 
-use std::error::Error;
-use std::fmt;
+use thiserror::Error;
 
 /// The eight flag bits of an entry, from bit 0 up: valid, readable, writable, executable, user, global, accessed, dirty.
 #[derive(Clone, Copy, PartialEq, Eq, Debug, Default)]
@@ -37,13 +36,6 @@ pub struct Rights {
 }
 
 /// The refusal of a number that is too wide for its field.
-#[derive(Clone, Copy, PartialEq, Eq, Debug)]
+#[derive(Clone, Copy, PartialEq, Eq, Debug, Error)]
+#[error("6: a field is too wide")]
 pub struct TooWide;
-
-impl fmt::Display for TooWide {
-    fn fmt<W: fmt::Write>(&self, f: &mut fmt::Formatter<W>) -> fmt::Result {
-        f.write_str("6: a field is too wide")
-    }
-}
-
-impl Error for TooWide {}

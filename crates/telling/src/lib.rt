@@ -1,7 +1,7 @@
 // Calls and their answers as lines for people.
 #![tactic(auto)]
 
-use machine::{Action, Answer, By, Call, Refusal};
+use machine::{Action, Answer, By, Call, Refusal, Request};
 use std::fmt;
 use sv39::{Mode, Rights};
 
@@ -38,7 +38,11 @@ impl fmt::Display for Letters {
 }
 
 /// A number, or a word where there is none.
-fn show_or<W: fmt::Write>(f: &mut fmt::Formatter<W>, n: Option<u64>, word: &str) -> fmt::Result {
+fn show_or<W: fmt::Write, N: fmt::Display>(
+    f: &mut fmt::Formatter<W>,
+    n: Option<N>,
+    word: &str,
+) -> fmt::Result {
     match n {
         Some(n) => write!(f, "{n}"),
         None => f.write_str(word),
@@ -76,46 +80,50 @@ impl fmt::Display for Line {
                 write!(f, "protect {space} {address:#x} {letters}")
             }
             Call::Unmap { space, address } => write!(f, "unmap {space} {address:#x}"),
+            Call::Enter { hart, space } => write!(f, "enter {hart} {space}"),
+            Call::Status { hart, sum, mxr } => {
+                let sum = u8::from(sum);
+                let mxr = u8::from(mxr);
+                write!(f, "status {hart} {sum} {mxr}")
+            }
+            Call::Access { hart, request } => show_access(f, hart, request),
+            Call::Fence {
+                hart,
+                space,
+                address,
+            } => show_fence(f, hart, space, address),
             Call::Settle { debt } => write!(f, "settle {debt}"),
-            _ => show_of_hart(f, self.0),
         }
     }
 }
 
-/// The calls that name a hart.
-fn show_of_hart<W: fmt::Write>(f: &mut fmt::Formatter<W>, call: Call) -> fmt::Result {
-    match call {
-        Call::Enter { hart, space } => write!(f, "enter {hart} {space}"),
-        Call::Status { hart, sum, mxr } => {
-            let sum = sum as u8;
-            let mxr = mxr as u8;
-            write!(f, "status {hart} {sum} {mxr}")
-        }
-        Call::Access { hart, request } => {
-            let mode = letter(request.mode);
-            let address = request.address;
-            match request.action {
-                Action::Fetch => write!(f, "fetch {hart} {mode} {address:#x}"),
-                Action::Load => write!(f, "load {hart} {mode} {address:#x}"),
-                Action::Store(value) => write!(f, "store {hart} {mode} {address:#x} {value}"),
-            }
-        }
-        Call::Fence {
-            hart,
-            space,
-            address,
-        } => {
-            write!(f, "fence {hart} ")?;
-            match space {
-                Some(n) => write!(f, "{n} ")?,
-                None => f.write_str("all ")?,
-            }
-            match address {
-                Some(a) => write!(f, "{a:#x}"),
-                None => f.write_str("all"),
-            }
-        }
-        _ => Ok(()),
+fn show_access<W: fmt::Write>(
+    f: &mut fmt::Formatter<W>,
+    hart: usize,
+    request: Request,
+) -> fmt::Result {
+    let kind = request.action.kind();
+    let mode = letter(request.mode);
+    let address = request.address;
+    write!(f, "{kind} {hart} {mode} {address:#x}")?;
+    match request.action {
+        Action::Store(value) => write!(f, " {value}"),
+        Action::Fetch | Action::Load => Ok(()),
+    }
+}
+
+fn show_fence<W: fmt::Write>(
+    f: &mut fmt::Formatter<W>,
+    hart: usize,
+    space: Option<usize>,
+    address: Option<u64>,
+) -> fmt::Result {
+    write!(f, "fence {hart} ")?;
+    show_or(f, space, "all")?;
+    f.write_str(" ")?;
+    match address {
+        Some(a) => write!(f, "{a:#x}"),
+        None => f.write_str("all"),
     }
 }
 

@@ -5,31 +5,36 @@ ghost use Rattle.walker.specs.declared.fault.WalkFault.TheVariants.{RootTooWide}
 ghost use Rattle.walker.specs.Reported.{reported, stop_number};
 
 use memory::Beyond;
-use std::error::Error;
-use std::fmt;
 use sv39::{Kind, TooWide};
+use thiserror::Error;
 
 /// What stopped a walk at an entry, in the order in which a walk looks.
-#[derive(Clone, Copy, PartialEq, Eq, Debug)]
+#[derive(Clone, Copy, PartialEq, Eq, Debug, Error)]
 pub enum Stop {
     /// The entry is beyond the memory, whose refusal this is.
+    #[error("38: the entry cannot be read ({0})")]
     EntryBeyond(Beyond),
-    /// V is clear.
+    #[error("32: V is clear")]
     Invalid,
-    /// W is set without R.
+    #[error("33: W without R")]
     WriteOnly,
     /// The entry is a pointer, and at level 0.
+    #[error("34: a pointer at level 0")]
     PointerAtZero,
     /// The leaf lacks a right that the access needs.
+    #[error("35: the rights do not allow it")]
     Rights,
     /// The leaf is above level 0 and low bits of its PPN are set.
+    #[error("36: the leaf is misaligned for its level")]
     Misaligned,
-    /// A is clear, or D on a store.
+    #[error("37: A is clear, or D on a store")]
     Marks,
     /// The doubleword that the access wants is beyond the memory, which would refuse it so.
+    #[error("39: the frame is outside ({0})")]
     FrameBeyond(Beyond),
 }
 
+// `From` by hand, as a contract names what `?` makes, and the derive of it has none.
 impl From<Beyond> for Stop {
     ghost from_gives = { λ b r. r ≡ EntryBeyond b };
 
@@ -39,13 +44,14 @@ impl From<Beyond> for Stop {
 }
 
 /// The fault of a walk.
-#[derive(Clone, Copy, PartialEq, Eq, Debug)]
+#[derive(Clone, Copy, PartialEq, Eq, Debug, Error)]
 pub enum WalkFault {
-    /// The root frame is too wide.
+    #[error("6: the root is too wide for a frame's number")]
     RootTooWide(TooWide),
-    /// The address is not canonical.
+    #[error("31: the address is not canonical")]
     NotCanonical(Kind),
     /// The walk stopped at this entry of this level.
+    #[error("{stop}, at level {level}, entry {entry}")]
     Stopped {
         stop: Stop,
         kind: Kind,
@@ -63,7 +69,7 @@ impl From<TooWide> for WalkFault {
 }
 
 /// What a fault tells: its number, the standard's code, the level and entry it stopped at, and the memory's refusal.
-#[derive(Clone, Copy, PartialEq, Eq, Debug)]
+#[derive(Clone, Copy, PartialEq, Eq, Debug, Default)]
 pub struct Report {
     pub number: u8,
     pub code: Option<u8>,
@@ -98,17 +104,12 @@ impl WalkFault {
         match self {
             WalkFault::RootTooWide(_) => Report {
                 number: 6,
-                code: None,
-                level: None,
-                entry: None,
-                beyond: None,
+                ..Report::default()
             },
             WalkFault::NotCanonical(kind) => Report {
                 number: 31,
                 code: Some(kind.page_fault()),
-                level: None,
-                entry: None,
-                beyond: None,
+                ..Report::default()
             },
             WalkFault::Stopped {
                 stop,
@@ -131,37 +132,3 @@ impl WalkFault {
         }
     }
 }
-
-impl fmt::Display for Stop {
-    fn fmt<W: fmt::Write>(&self, f: &mut fmt::Formatter<W>) -> fmt::Result {
-        match *self {
-            Stop::Invalid => f.write_str("32: V is clear"),
-            Stop::WriteOnly => f.write_str("33: W without R"),
-            Stop::PointerAtZero => f.write_str("34: a pointer at level 0"),
-            Stop::Rights => f.write_str("35: the rights do not allow it"),
-            Stop::Misaligned => f.write_str("36: the leaf is misaligned for its level"),
-            Stop::Marks => f.write_str("37: A is clear, or D on a store"),
-            Stop::EntryBeyond(b) => write!(f, "38: the entry cannot be read ({b})"),
-            Stop::FrameBeyond(b) => write!(f, "39: the frame is outside ({b})"),
-        }
-    }
-}
-
-impl fmt::Display for WalkFault {
-    fn fmt<W: fmt::Write>(&self, f: &mut fmt::Formatter<W>) -> fmt::Result {
-        match *self {
-            WalkFault::RootTooWide(_) => f.write_str(
-                "6: the root is too wide for a frame's number",
-            ),
-            WalkFault::NotCanonical(_) => f.write_str("31: the address is not canonical"),
-            WalkFault::Stopped {
-                stop,
-                kind: _,
-                level,
-                entry,
-            } => { write!(f, "{stop}, at level {level}, entry {entry}") }
-        }
-    }
-}
-
-impl Error for WalkFault {}

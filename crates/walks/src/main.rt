@@ -5,7 +5,6 @@ mod vectors;
 
 ghost use Rattle.std.specs.Prelude.{◌≡◌};
 ghost use Rattle.walker.specs.Walk.{walked};
-ghost use Rattle.walks.specs.Outcomes.{outcome_of};
 
 use anyhow::{Context, anyhow};
 use memory::Words;
@@ -13,7 +12,7 @@ use std::alloc::Global;
 use std::io::{BufRead, BufReader};
 use std::str::Split;
 use vectors::{Case, Outcome};
-use walker::walk;
+use walker::{Translation, WalkFault, walk};
 
 /// The memory that the cases below it are walked in.
 #[derive(Drop)]
@@ -39,11 +38,11 @@ impl Board {
     }
 
     /// What the walk of a case comes to in this memory.
-    fn run(&mut self, case: &Case) -> Outcome
-        ensures { result ≡ outcome_of (walked self.old.words.items case.now.root case.now.access) }
+    fn run(&mut self, case: &Case) -> Result<Translation, WalkFault>
+        ensures { result ≡ walked self.old.words.items case.now.root case.now.access }
     {
         let memory = Words::new(&mut self.words);
-        Outcome::of(walk(&memory, case.root, &case.access))
+        walk(&memory, case.root, &case.access)
     }
 }
 
@@ -54,8 +53,8 @@ fn board_of(heap: Global, words: &mut Split<'_, char>) -> anyhow::Result<Board> 
     Board::of_size(heap, size as usize)
 }
 
-/// Does what a line says; answers the number and the outcome of a case.
-fn follow(heap: Global, board: &mut Board, line: &str) -> anyhow::Result<Option<(u64, Outcome)>> {
+/// Does what a line says; answers the outcome of a case.
+fn follow(heap: Global, board: &mut Board, line: &str) -> anyhow::Result<Option<Outcome>> {
     let mut words = line.split(' ');
     match words.next() {
         Some("memory") => *board = board_of(heap, &mut words)?,
@@ -68,7 +67,11 @@ fn follow(heap: Global, board: &mut Board, line: &str) -> anyhow::Result<Option<
         }
         Some("case") => {
             let case = Case::parse(&mut words).context("a case that does not fit")?;
-            return Ok(Some((case.number, board.run(&case))));
+            let answer = board.run(&case);
+            return Ok(Some(Outcome {
+                number: case.number,
+                answer,
+            }));
         }
         _ => return Err(anyhow!("a line that is no memory, words or case")),
     }
@@ -80,8 +83,8 @@ fn run_all(rt: &HostRuntime) -> anyhow::Result<()> {
     let mut board = Board::of_size(heap, 0)?;
     for line in BufReader::new(heap, rt.stdin())?.lines(heap) {
         let line = line?;
-        if let Some((number, outcome)) = follow(heap, &mut board, line.as_str())? {
-            println!(rt; "{number} {outcome}")?;
+        if let Some(outcome) = follow(heap, &mut board, line.as_str())? {
+            println!(rt; "{outcome}")?;
         }
     }
     Ok(())

@@ -1,7 +1,4 @@
 // The words of a vector file, and what is printed of a walk.
-ghost use Rattle.std.specs.Prelude.{◌≡◌};
-ghost use Rattle.walks.specs.Outcomes.{outcome_of};
-
 use std::fmt;
 use std::str::Split;
 use sv39::{Access, Kind, Mode};
@@ -76,26 +73,11 @@ fn bit_of(word: &str) -> Option<bool> {
     }
 }
 
-/// What a walk came to, as a vector file has it.
+/// What the walk of a case came to.
 #[derive(Clone, Copy)]
-pub enum Outcome {
-    Found { frame: u64, level: u8, leaf: u64 },
-    Fault(WalkFault),
-}
-
-impl Outcome {
-    pub fn of(answer: Result<Translation, WalkFault>) -> Outcome
-        ensures { result ≡ outcome_of answer }
-    {
-        match answer {
-            Ok(t) => Outcome::Found {
-                frame: t.frame,
-                level: t.level,
-                leaf: t.leaf.pack(),
-            },
-            Err(fault) => Outcome::Fault(fault),
-        }
-    }
+pub struct Outcome {
+    pub number: u64,
+    pub answer: Result<Translation, WalkFault>,
 }
 
 /// A number, or `-` where there is none.
@@ -111,24 +93,23 @@ impl fmt::Display for OrDash {
     }
 }
 
-fn widened(byte: Option<u8>) -> OrDash {
-    match byte {
-        Some(b) => OrDash(Some(u64::from(b))),
-        None => OrDash(None),
-    }
-}
-
 impl fmt::Display for Outcome {
     fn fmt<W: fmt::Write>(&self, f: &mut fmt::Formatter<W>) -> fmt::Result {
-        match *self {
-            Outcome::Found { frame, level, leaf } => write!(f, "ok {frame} {level} {leaf:#x}"),
-            Outcome::Fault(fault) => {
+        let case = self.number;
+        match self.answer {
+            Ok(found) => {
+                let frame = found.frame;
+                let level = found.level;
+                let leaf = found.leaf.pack();
+                write!(f, "{case} ok {frame} {level} {leaf:#x}")
+            }
+            Err(fault) => {
                 let report = fault.report();
                 let number = report.number;
-                let code = widened(report.code);
-                let level = widened(report.level);
+                let code = OrDash(report.code.map(u64::from));
+                let level = OrDash(report.level.map(u64::from));
                 let entry = OrDash(report.entry);
-                write!(f, "no {number} {code} {level} {entry}")
+                write!(f, "{case} no {number} {code} {level} {entry}")
             }
         }
     }
