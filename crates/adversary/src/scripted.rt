@@ -4,7 +4,7 @@ ghost use Rattle.policy.specs.Answers.{touch_of, pick_of, last_after};
 ghost use Rattle.adversary.specs.Steered.{steered, cursor_after, lasts_after};
 ghost use Rattle.adversary.specs.Steering.{steered_within, steered_apart};
 
-use policy::{Policy, PolicyRefusal};
+use policy::{Policy, PolicyRefusal, accept};
 
 /// The numbers still to be picked begin at `cursor`; past the script's end every number is 0.
 #[derive(Drop)]
@@ -19,19 +19,10 @@ fn steer(number: usize, last: Option<usize>) -> usize
     ensures { result ≡ steered number last }
 {
     let way = number % 16;
-    match last {
-        Some(w) if w == way => (way + 1) % 16,
-        _ => way,
-    }
-}
-
-fn number_at(script: &[usize], cursor: usize) -> usize
-    ensures { result ≡ slice_index script.now cursor }
-{
-    if cursor < script.len() {
-        script[cursor]
+    if last == Some(way) {
+        (way + 1) % 16
     } else {
-        0
+        way
     }
 }
 
@@ -67,12 +58,7 @@ impl Policy for Scripted {
         ensures cursor { self.new.cursor ≡ self.old.cursor }
         ensures lasts { self.new.last ≡ lasts_after hart way self.old.last }
     {
-        if hart >= 8 {
-            return Err(PolicyRefusal::NoHart);
-        }
-        if way >= 16 {
-            return Err(PolicyRefusal::NoWay);
-        }
+        accept(hart, way)?;
         self.last[hart] = Some(way);
         Ok(())
     }
@@ -85,11 +71,9 @@ impl Policy for Scripted {
         ensures cursor { self.new.cursor ≡ cursor_after hart self.old.cursor }
         ensures lasts { self.new.last ≡ self.old.last }
     {
-        if hart >= 8 {
-            return Err(PolicyRefusal::NoHart);
-        }
-        let number = number_at(&self.script, self.cursor);
+        let last = self.last.get(hart).copied().ok_or(PolicyRefusal::NoHart)?;
+        let number = self.script.get(self.cursor).copied().unwrap_or(0);
         self.cursor = self.cursor.saturating_add(1);
-        Ok(steer(number, self.last[hart]))
+        Ok(steer(number, last))
     }
 }

@@ -1,5 +1,5 @@
 -- What the two policies keep, in the words of the subject.
-use Rattle.std.specs.Prelude.{◌≡◌, ℕ, ◌+◌, ◌%◌, ◌<◌, Bool, true, false, ◌⊎◌, List, [], ◌∷◌, ◌++◌, get_or, replicate, Option, ◌≢◌, slice_index_or}
+use Rattle.std.specs.Prelude.{◌≡◌, ℕ, ◌+◌, ◌%◌, ◌<◌, Bool, true, false, ◌⊎◌, List, [], ◌∷◌, ◌++◌, replicate, Option, ◌≢◌, slice_index_or}
 use Rattle.policy.specs.Dial.{is_last, swept}
 use Rattle.policy.specs.Tree.{followed, touched}
 
@@ -18,7 +18,7 @@ pub record FirstFree (marks : List Bool) (hand : ℕ) (last : Option ℕ) (way :
   pub passes : ℕ
   pub once : passes < 16
   pub there : way ≡ (hand + passes) % 16
-  pub unmarked : get_or marks way false ≡ false
+  pub unmarked : slice_index_or marks way false ≡ false
   pub apart : is_last last way ≡ false
   pub passed : (i : ℕ) → i < passes → (slice_index_or marks ((hand + i) % 16) false ≡ true) ⊎ (is_last last ((hand + i) % 16) ≡ true)
 

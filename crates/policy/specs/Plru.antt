@@ -1,18 +1,14 @@
 -- Tree-PLRU: a tree for each hart.
-use Rattle.std.specs.Prelude.{◌≡◌, ℕ, Bool, false, cond, ◌&&◌, List, replicate, Some, None, Option, ◌==◌, slice_index_or, refl}
-use Rattle.std.proofs.Common.{arith}
+use Rattle.std.specs.Prelude.{ℕ, Bool, false, cond, ◌&&◌, List, replicate, None, Option, ◌==◌, slice_index_or, refl}
+use Rattle.std.proofs.lemmas.Option.{none-some}
 use Rattle.policy.specs.declared.tree.Tree.{Tree}
 use Rattle.policy.specs.declared.plru.TreePlru.{TreePlru}
 use Rattle.policy.specs.Answers.{accepted}
 use Rattle.policy.specs.Tree.{touched}
 
--- none of nothing is some way
-pub none_is_no_way : (w : ℕ) → ◌≡◌ {A = Option ℕ} None (Some w) → ⊥
-none_is_no_way w e = let z : ◌≡◌ {A = ℕ} 0 1 = cc in absurd (omega arith)
-
 -- a tree with all bits clear and no way touched
 abbrev pub fresh : Tree
-fresh = record { nodes = replicate 16 false; last = None; full = refl; apart = none_is_no_way _ }
+fresh = record { nodes = replicate 16 false; last = None; full = refl; apart = none-some _ }
 
 abbrev pub tree_of : TreePlru → ℕ → Tree
 tree_of p hart = slice_index_or p.trees hart fresh

@@ -1,6 +1,7 @@
 -- Trees: the bits lead to a way, and after a touch not to the way touched.
-use Rattle.std.specs.Prelude.{◌≡◌, ℕ, ◌+◌, ◌-◌, ◌*◌, ◌/◌, ◌%◌, ◌<◌, ◌≤◌, Bool, true, false, cond, List, [], ◌∷◌, ◌++◌, length, get_or, replicate, ◌==◌, ◌≢◌, slice_index_or, slice_set, refl}
-use Rattle.std.proofs.Common.{sym, ◌∙◌, ⊎_elim}
+use Rattle.std.specs.Prelude.{◌≡◌, ℕ, zero, suc, ◌^◌, ◌+◌, ◌*◌, ◌/◌, ◌%◌, ◌<◌, ◌≤◌, Bool, true, false, cond, List, [], ◌∷◌, ◌++◌, length, get_or, replicate, ◌==◌, ◌≢◌, slice_index_or, slice_set, refl}
+use Rattle.std.proofs.Common.{sym, ◌∙◌, ⊎_elim, div-one, pow-suc, mul_comm}
+use Rattle.std.proofs.Math.Nat.{pow-le-pow_right}
 use Rattle.std.proofs.Math.Path.{ap}
 use native.Mathlib.Omega.{arith}
 use Rattle.std.proofs.lemmas.List.{get_or-set_same, length-set}
@@ -15,33 +16,44 @@ child_between nodes n = by (slice_index_or nodes n false)
     by true = (omega arith, omega arith)
     by false = (omega arith, omega arith)
 
+-- where the bits lead from a node, so many levels down
+unfoldable pub down : List Bool → ℕ → ℕ → ℕ
+down nodes node zero = node
+down nodes node (suc levels) = child_of nodes (down nodes node levels)
+
+pub down_between : (nodes : List Bool) (node levels : ℕ) → (2 ^ levels * node ≤ down nodes node levels) × (down nodes node levels < 2 ^ levels * (node + 1))
+unfolding down
+down_between nodes node zero = (omega arith, omega arith)
+down_between nodes node (suc levels) =
+    let h = down_between nodes node levels in
+    let b = child_between nodes (down nodes node levels) in
+    let e : 2 ^ suc levels ≡ 2 * 2 ^ levels = pow-suc 2 levels ∙ mul_comm (2 ^ levels) 2 in
+    rw e (omega arith, omega arith)
+
+pub down_inside : (nodes : List Bool) (levels : ℕ) → levels < 4 → down nodes 1 levels < 16
+down_inside nodes levels h =
+    let b = down_between nodes 1 levels in
+    let p : 2 ^ levels ≤ 2 ^ 3 = pow-le-pow_right {n = 2} (omega arith) {i = levels} {j = 3} (omega arith) in
+    omega arith
+
 -- the four bits from the root, and the half that the root's bit names
 module _ (nodes : List Bool) where
   pub followed_within : followed nodes < 16
-  unfolding followed
-  followed_within =
-      let a = child_between nodes 1 in
-      let b = child_between nodes (child_of nodes 1) in
-      let c = child_between nodes (child_of nodes (child_of nodes 1)) in
-      let d = child_between nodes (child_of nodes (child_of nodes (child_of nodes 1))) in
-      omega arith
+  unfolding followed down
+  followed_within = let b = down_between nodes 1 4 in omega arith
 
   high_half : get_or nodes 1 false ≡ true → 8 ≤ followed nodes
-  unfolding followed
+  unfolding followed down
   high_half e =
       let a : child_of nodes 1 ≡ 3 = ap (λ (t : Bool). cond t 3 2) e in
-      let b = child_between nodes (child_of nodes 1) in
-      let c = child_between nodes (child_of nodes (child_of nodes 1)) in
-      let d = child_between nodes (child_of nodes (child_of nodes (child_of nodes 1))) in
+      let b = down_between nodes (child_of nodes 1) 3 in
       omega arith
 
   low_half : get_or nodes 1 false ≡ false → followed nodes < 8
-  unfolding followed
+  unfolding followed down
   low_half e =
       let a : child_of nodes 1 ≡ 2 = ap (λ (t : Bool). cond t 3 2) e in
-      let b = child_between nodes (child_of nodes 1) in
-      let c = child_between nodes (child_of nodes (child_of nodes 1)) in
-      let d = child_between nodes (child_of nodes (child_of nodes (child_of nodes 1))) in
+      let b = down_between nodes (child_of nodes 1) 3 in
       omega arith
 
 pub length_touched : (nodes : List Bool) (way : ℕ) → length (touched nodes way) ≡ length nodes
@@ -68,16 +80,16 @@ touched_away nodes way h l e =
     let z : (16 + way) / 8 % 2 ≡ 1 = omega arith in
     omega (arith, low_half (touched nodes way) (root_turned nodes way h l ∙ ne_eqb ((16 + way) / 8 % 2) 0 (λ q. omega arith)))) (cases_lt way 8)
 
--- the code's four turns are a touch, and its four children the way that the bits lead to
-pub four_turns : (n n1 n2 n3 n4 : List Bool) (way : ℕ) → n1 ≡ turned n (16 + way) → n2 ≡ turned n1 ((16 + way) / 2) → n3 ≡ turned n2 ((16 + way) / 4) → n4 ≡ turned n3 ((16 + way) / 8) → n4 ≡ touched n way
-unfolding touched
-four_turns n n1 n2 n3 n4 way a b c d =
-    d ∙ ap (λ (x : List Bool). turned x ((16 + way) / 8)) (c ∙ ap (λ (x : List Bool). turned x ((16 + way) / 4)) (b ∙ ap (λ (x : List Bool). turned x ((16 + way) / 2)) a))
+-- a touch by levels, from the leaf upward
+unfoldable pub turned_below : List Bool → ℕ → ℕ → List Bool
+turned_below nodes way zero = nodes
+turned_below nodes way (suc level) = turned (turned_below nodes way level) ((16 + way) / 2 ^ level)
 
-pub four_children : (nodes : List Bool) (a b c d : ℕ) → a ≡ child_of nodes 1 → b ≡ child_of nodes a → c ≡ child_of nodes b → d ≡ child_of nodes c → d - 16 ≡ followed nodes
-unfolding followed
-four_children nodes a b c d ha hb hc hd =
-    ap (λ (x : ℕ). x - 16) (hd ∙ ap (child_of nodes) (hc ∙ ap (child_of nodes) (hb ∙ ap (child_of nodes) ha)))
+pub all_turned : (nodes : List Bool) (way : ℕ) → turned_below nodes way 4 ≡ touched nodes way
+unfolding turned_below touched
+all_turned nodes way =
+    let e = div-one (16 + way) in
+    ap (λ (n : ℕ). turned (turned (turned (turned nodes n) ((16 + way) / 2)) ((16 + way) / 4)) ((16 + way) / 8)) e
 
 length_touched_all : (nodes : List Bool) (ways : List ℕ) → length (touched_all nodes ways) ≡ length nodes
 length_touched_all nodes [] = refl

@@ -8,19 +8,10 @@ ghost use Rattle.policy.specs.Dials.{swept_within, swept_apart, last_is};
 ghost use Rattle.std.proofs.lemmas.Bool.{both_ways};
 
 use crate::dial::Dial;
-use crate::{Policy, PolicyRefusal};
+use crate::{Policy, PolicyRefusal, accept};
 
 /// A pick finds its way within this many looks.
 const LOOKS: usize = 18;
-
-fn is_last(last: Option<usize>, way: usize) -> bool
-    ensures { result ≡ is_last last way }
-{
-    match last {
-        Some(w) => w == way,
-        None => false,
-    }
-}
 
 impl Dial {
     fn fresh() -> Dial
@@ -56,7 +47,7 @@ impl Dial {
         for _look in 0..LOOKS {
             let way = self.hand;
             self.hand = (way + 1) % 16;
-            if is_last(self.last, way) {
+            if self.last == Some(way) {
                 continue;
             }
             if !self.marks[way] {
@@ -105,12 +96,7 @@ impl Policy for Clock {
         ensures marks { (h : ℕ) → h < 8 → marks_of self.new h ≡ marks_after_touch self.old hart way h }
         ensures hands { (h : ℕ) → h < 8 → hand_of self.new h ≡ hand_of self.old h }
     {
-        if hart >= 8 {
-            return Err(PolicyRefusal::NoHart);
-        }
-        if way >= 16 {
-            return Err(PolicyRefusal::NoWay);
-        }
+        accept(hart, way)?;
         self.dials[hart].touch(way);
         Ok(())
     }
@@ -122,6 +108,7 @@ impl Policy for Clock {
         ensures marks { (h : ℕ) → h < 8 → marks_of self.new h ≡ marks_after_pick self.old hart h }
         ensures hands { (h : ℕ) → h < 8 → hand_of self.new h ≡ hand_after_pick self.old hart h }
     {
+        // No `get_mut`: of an array it leaves nothing known of the other harts' dials.
         if hart >= 8 {
             return Err(PolicyRefusal::NoHart);
         }

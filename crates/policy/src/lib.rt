@@ -10,5 +10,5 @@ mod tree;
 
 pub use clock::Clock;
 pub use laws::policy_laws;
-pub use meaning::{Policy, PolicyRefusal};
+pub use meaning::{Policy, PolicyRefusal, accept};
 pub use plru::TreePlru;

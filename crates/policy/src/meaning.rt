@@ -37,6 +37,19 @@ impl fmt::Display for PolicyRefusal {
 
 impl Error for PolicyRefusal {}
 
+/// Whether a touch is one that a policy takes: every policy refuses a hart above 7, then a way above 15.
+pub fn accept(hart: usize, way: usize) -> Result<(), PolicyRefusal>
+    ensures { result ≡ touch_of hart way }
+{
+    if hart >= 8 {
+        Err(PolicyRefusal::NoHart)
+    } else if way >= 16 {
+        Err(PolicyRefusal::NoWay)
+    } else {
+        Ok(())
+    }
+}
+
 /// A policy means, for each hart, the way touched last (`last`) and the way that it would pick now (`choice`), which is
 /// a way and never the one touched last.
 pub trait Policy {

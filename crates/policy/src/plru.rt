@@ -6,22 +6,17 @@ ghost use Rattle.policy.specs.Tree.{child_of, followed, turned, touched};
 ghost use Rattle.policy.specs.Trees.{followed_within};
 
 use crate::tree::Tree;
-use crate::{Policy, PolicyRefusal};
+use crate::{Policy, PolicyRefusal, accept};
 
-/// Turns the bit above a node away from that node.
-fn turn(nodes: &mut [bool; 16], node: usize)
-    requires { node < 32 }
-    ensures { nodes.new ≡ turned nodes.old node }
+/// Turns every bit on the path of a way away from it.
+fn turn_away(nodes: &mut [bool; 16], way: usize)
+    requires { way < 16 }
+    ensures { nodes.new ≡ touched nodes.old way }
 {
-    nodes[node / 2] = node % 2 == 0;
-}
-
-/// The child of a node that its bit names.
-fn child(nodes: &[bool; 16], node: usize) -> usize
-    requires { node < 16 }
-    ensures { result ≡ child_of nodes.now node }
-{
-    if nodes[node] { 2 * node + 1 } else { 2 * node }
+    for level in 0..4u32 {
+        let node = (16 + way) >> level;
+        nodes[node / 2] = node % 2 == 0;
+    }
 }
 
 impl Tree {
@@ -40,11 +35,7 @@ impl Tree {
         ensures nodes { self.new.nodes ≡ touched self.old.nodes way }
         ensures last { self.new.last ≡ Some way }
     {
-        let leaf = 16 + way;
-        turn(&mut self.nodes, leaf);
-        turn(&mut self.nodes, leaf / 2);
-        turn(&mut self.nodes, leaf / 4);
-        turn(&mut self.nodes, leaf / 8);
+        turn_away(&mut self.nodes, way);
         self.last = Some(way);
     }
 
@@ -52,10 +43,11 @@ impl Tree {
         ensures value { result ≡ followed self.now.nodes }
         ensures bound { result < 16 }
     {
-        let half = child(&self.nodes, 1);
-        let quarter = child(&self.nodes, half);
-        let pair = child(&self.nodes, quarter);
-        child(&self.nodes, pair) - 16
+        let mut node = 1;
+        for _level in 0..4u32 {
+            node = 2 * node + usize::from(self.nodes[node]);
+        }
+        node - 16
     }
 }
 
@@ -91,12 +83,7 @@ impl Policy for TreePlru {
         ensures refused { is_err result ≡ true → self.new ≡ self.old }
         ensures nodes { (h : ℕ) → h < 8 → nodes_of self.new h ≡ nodes_after (nodes_of self.old) hart way h }
     {
-        if hart >= 8 {
-            return Err(PolicyRefusal::NoHart);
-        }
-        if way >= 16 {
-            return Err(PolicyRefusal::NoWay);
-        }
+        accept(hart, way)?;
         self.trees[hart].touch(way);
         Ok(())
     }
@@ -107,9 +94,7 @@ impl Policy for TreePlru {
         ensures refused { is_err result ≡ true → self.new ≡ self.old }
         ensures same { self.new ≡ self.old }
     {
-        if hart >= 8 {
-            return Err(PolicyRefusal::NoHart);
-        }
-        Ok(self.trees[hart].follow())
+        let tree = self.trees.get(hart).ok_or(PolicyRefusal::NoHart)?;
+        Ok(tree.follow())
     }
 }
