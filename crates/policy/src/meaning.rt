@@ -2,15 +2,15 @@
 ghost use Rattle.std.specs.Prelude.{◌≡◌, ℕ, ◌<◌, true, is_err, Some, Option, ◌≢◌};
 ghost use Rattle.policy.specs.Answers.{refusal_number, touch_of, pick_of, last_after};
 
-use std::error::Error;
-use std::fmt;
+use thiserror::Error;
 
 /// Why a policy refuses.
-#[derive(Clone, Copy, PartialEq, Eq, Debug)]
+#[derive(Clone, Copy, PartialEq, Eq, Debug, Error)]
 pub enum PolicyRefusal {
     /// The hart is above 7.
+    #[error("10: no such hart")]
     NoHart,
-    /// The way is above 15.
+    #[error("7: the way is above 15")]
     NoWay,
 }
 
@@ -25,17 +25,6 @@ impl PolicyRefusal {
         }
     }
 }
-
-impl fmt::Display for PolicyRefusal {
-    fn fmt<W: fmt::Write>(&self, f: &mut fmt::Formatter<W>) -> fmt::Result {
-        f.write_str(match *self {
-            PolicyRefusal::NoHart => "10: no such hart",
-            PolicyRefusal::NoWay => "7: the way is above 15",
-        })
-    }
-}
-
-impl Error for PolicyRefusal {}
 
 /// Whether a touch is one that a policy takes: every policy refuses a hart above 7, then a way above 15.
 pub fn accept(hart: usize, way: usize) -> Result<(), PolicyRefusal>
