@@ -1,29 +1,63 @@
 -- Going through the slots of a ledger one by one.
-use Rattle.std.proofs.Common.{◌≡◌, ℕ, ◌+◌, ◌^◌, ◌<◌, ◌≤◌, Bool, true, false, cond, eqb, ltb, List, [], ◌∷◌, ◌++◌, map, length, get_or, take, drop, set, Some, None, Option, ap, ◌∙◌, arith}
-use Rattle.std.proofs.lemmas.List.Edits.{map_over_more}
-use Rattle.std.proofs.lemmas.List.{at_drop_more, at_drop_all, take_all, drop_all, append-nil, get_or_default}
-use Rattle.std.proofs.lemmas.Bool.{cond-true, cond-false, eq-eqb, ne_eqb}
+use Rattle.std.proofs.Common.{◌≡◌, ℕ, suc, ◌+◌, ◌-◌, ◌^◌, ◌==◌, ◌<◌, ◌≤◌, Bool, true, false, cond, eqb, ltb, List, [], ◌∷◌, length, get_or, Some, None, Option, sym, refl, ap, ◌∙◌, arith}
+use Rattle.std.proofs.lemmas.Iterator.Adapters.{position_from-zero}
+use Rattle.std.specs.List.{position, position_from}
+use Rattle.std.specs.Option.{option_map}
 use Rattle.tlb.specs.Slots.{empty_slot}
 use Rattle.tlb.proofs.Sparse.{empty_below}
 use Rattle.debts.specs.declared.debt.Debt.{Debt}
-use Rattle.debts.specs.Debts.{Debts, room, open_debt, marked_by}
+use Rattle.debts.specs.Debts.{Debts, room, open_debt}
 
-module _ (slots : List (Option Debt)) (i number : ℕ) where
-  at_debt : i < length slots → (o : Option Debt) → get_or slots i None ≡ o → open_debt number i (drop i slots) ≡ open_debt number i (o ∷ drop (i + 1) slots)
-  at_debt h o e =
-      at_drop_more (open_debt number i) slots i None h ∙ ap (λ (x : Option Debt). open_debt number i (x ∷ drop (i + 1) slots)) e
+-- whether a debt is open and has a number
+abbrev pub is_numbered : ℕ → Option Debt → Bool
+is_numbered number None = false
+is_numbered number (Some d) = d.number == number
 
-  pub open_here : (d : Debt) → i < length slots → get_or slots i None ≡ Some d → d.number ≡ number → open_debt number i (drop i slots) ≡ Some (i, d)
-  open_here d h e t = at_debt h (Some d) e ∙ cond-true (eqb d.number number) _ _ (eq-eqb d.number number t)
+-- a search from slot i on finds no lower slot
+from_there : (p : Option Debt → Bool) (i : ℕ) (slots : List (Option Debt)) (n : ℕ) → position_from p i slots ≡ Some n → i ≤ n
+from_there p i [] n e = let z : ◌≡◌ {A = ℕ} 0 1 = cc in absurd (omega arith)
+from_there p i (o ∷ slots) n e = at (p o) (from_there p (i + 1) slots n) e
+  where
+    at : (b : Bool) → (position_from p (i + 1) slots ≡ Some n → i + 1 ≤ n) → cond b (Some i) (position_from p (i + 1) slots) ≡ Some n → i ≤ n
+    at true later t = let z : i ≡ n = cc in omega arith
+    at false later t = let l = later t in omega arith
 
-  pub open_past : (d : Debt) → i < length slots → get_or slots i None ≡ Some d → (d.number ≡ number → ⊥) → open_debt number i (drop i slots) ≡ open_debt number (i + 1) (drop (i + 1) slots)
-  open_past d h e t = at_debt h (Some d) e ∙ cond-false (eqb d.number number) _ _ (ne_eqb d.number number t)
+-- the open debt of a number is the one in the slot that a search finds
+open_from : (number i : ℕ) (slots : List (Option Debt)) (n : ℕ) → position_from (is_numbered number) i slots ≡ Some n → open_debt number i slots ≡ option_map (λ d. (n, d)) (get_or slots (n - i) None)
+open_from number i [] n e = let z : ◌≡◌ {A = ℕ} 0 1 = cc in absurd (omega arith)
+open_from number i (None ∷ slots) n e =
+    let l = from_there (is_numbered number) (i + 1) slots n e in
+    let k : n - i ≡ suc (n - (i + 1)) = omega arith in
+    open_from number (i + 1) slots n e ∙ ap (λ (k : ℕ). option_map (λ d. (n, d)) (get_or (None ∷ slots) k None)) (sym k)
+open_from number i (Some x ∷ slots) n e = at (x.number == number) (open_from number (i + 1) slots n) (from_there (is_numbered number) (i + 1) slots n) e
+  where
+    at : (b : Bool) → (position_from (is_numbered number) (i + 1) slots ≡ Some n → open_debt number (i + 1) slots ≡ option_map (λ d. (n, d)) (get_or slots (n - (i + 1)) None)) → (position_from (is_numbered number) (i + 1) slots ≡ Some n → i + 1 ≤ n) → cond b (Some i) (position_from (is_numbered number) (i + 1) slots) ≡ Some n → cond b (Some (i, x)) (open_debt number (i + 1) slots) ≡ option_map (λ d. (n, d)) (get_or (Some x ∷ slots) (n - i) None)
+    at true rest later t =
+        let z : i ≡ n = cc in
+        let k : n - i ≡ 0 = omega arith in
+        ap (λ (k : ℕ). Some (k, x)) z ∙ ap (λ (k : ℕ). option_map (λ d. (n, d)) (get_or (Some x ∷ slots) k None)) (sym k)
+    at false rest later t =
+        let l = later t in
+        let k : n - i ≡ suc (n - (i + 1)) = omega arith in
+        rest t ∙ ap (λ (k : ℕ). option_map (λ d. (n, d)) (get_or (Some x ∷ slots) k None)) (sym k)
 
-  pub open_past_empty : i < length slots → get_or slots i None ≡ None → open_debt number i (drop i slots) ≡ open_debt number (i + 1) (drop (i + 1) slots)
-  open_past_empty h e = at_debt h None e
+none_from : (number i : ℕ) (slots : List (Option Debt)) → position_from (is_numbered number) i slots ≡ None → open_debt number i slots ≡ None
+none_from number i [] e = refl
+none_from number i (None ∷ slots) e = none_from number (i + 1) slots e
+none_from number i (Some x ∷ slots) e = at (x.number == number) (none_from number (i + 1) slots) e
+  where
+    at : (b : Bool) → (position_from (is_numbered number) (i + 1) slots ≡ None → open_debt number (i + 1) slots ≡ None) → cond b (Some i) (position_from (is_numbered number) (i + 1) slots) ≡ None → cond b (Some (i, x)) (open_debt number (i + 1) slots) ≡ None
+    at true rest t = let z : ◌≡◌ {A = ℕ} 0 1 = cc in absurd (omega arith)
+    at false rest t = rest t
 
-  pub open_none : length slots ≤ i → open_debt number i (drop i slots) ≡ None
-  open_none h = at_drop_all (open_debt number i) slots i h
+pub open_found : (number : ℕ) (slots : List (Option Debt)) (n : ℕ) → Some n ≡ position (is_numbered number) slots → open_debt number 0 slots ≡ option_map (λ d. (n, d)) (get_or slots n None)
+open_found number slots n e =
+    let k : n - 0 ≡ n = omega arith in
+    open_from number 0 slots n (sym (e ∙ position_from-zero (is_numbered number) slots))
+    ∙ ap (λ (k : ℕ). option_map (λ d. (n, d)) (get_or slots k None)) k
+
+pub open_not_found : (number : ℕ) (slots : List (Option Debt)) → None ≡ position (is_numbered number) slots → open_debt number 0 slots ≡ None
+open_not_found number slots e = none_from number 0 slots (sym (e ∙ position_from-zero (is_numbered number) slots))
 
 -- the slot of a debt that is found is one of those looked through
 pub open_below : (slots : List (Option Debt)) (i number n : ℕ) (d : Debt) → open_debt number i slots ≡ Some (n, d) → n < i + length slots
@@ -46,13 +80,3 @@ room_below v n e = go (ltb v.next (2 ^ 32)) e
     go : (b : Bool) → cond b (empty_slot 0 v.slots) None ≡ Some n → n < length v.slots
     go true t = let h : n < 0 + length v.slots = empty_below v.slots 0 n t in omega arith
     go false t = let z : ◌≡◌ {A = ℕ} 0 1 = cc in absurd (omega arith)
-
--- A fence that has come to slot i: ys has the slots so far fenced and the others of xs as they were.
-pub marked_more : (hart : ℕ) (space page : Option ℕ) (xs ys : List (Option Debt)) (i : ℕ) → i < length xs → i < length ys → ys ≡ map (marked_by hart space page) (take i xs) ++ drop i xs → set ys i (marked_by hart space page (get_or ys i None)) ≡ map (marked_by hart space page) (take (i + 1) xs) ++ drop (i + 1) xs
-marked_more hart space page xs ys i h k so_far =
-    map_over_more (marked_by hart space page) xs ys i (get_or ys i None) h so_far (get_or_default ys i None (get_or ys i None) k)
-
-pub marked_all : (hart : ℕ) (space page : Option ℕ) (xs : List (Option Debt)) (i : ℕ) → length xs ≤ i → map (marked_by hart space page) (take i xs) ++ drop i xs ≡ map (marked_by hart space page) xs
-marked_all hart space page xs i h =
-    ap (λ (zs : List (Option Debt)). map (marked_by hart space page) (take i xs) ++ zs) (drop_all i xs h)
-    ∙ append-nil (map (marked_by hart space page) (take i xs)) ∙ ap (map (marked_by hart space page)) (take_all i xs h)

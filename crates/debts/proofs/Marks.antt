@@ -1,18 +1,22 @@
--- Going through the harts of a debt one by one.
-use Rattle.std.proofs.Common.{◌≡◌, ℕ, suc, ◌+◌, ◌-◌, ◌<◌, ◌≤◌, true, false, Some, None, ap, ◌∙◌, arith}
-use Rattle.std.proofs.lemmas.Bool.{cond-true, cond-false}
+-- The harts that are marked on a debt, as bits.
+use Rattle.std.proofs.Common.{◌≡◌, ℕ, zero, suc, ◌+◌, ◌/◌, ◌%◌, ◌^◌, ◌==◌, ◌<◌, ◌≤◌, Bool, true, false, cond, not, Some, Option, refl, ap, arith}
+use Rattle.std.proofs.Math.Nat.{pow-le-pow_right, div-eq_of_lt}
+use Rattle.std.specs.List.{find, range_with_len}
 use Rattle.sv39.specs.Layout.{bit}
 use Rattle.debts.specs.Debts.{unmarked_from}
 
-module _ (marks h harts : ℕ) where
-  at_hart : (n : ℕ) → harts - h ≡ n → unmarked_from marks h (harts - h) ≡ unmarked_from marks h n
-  at_hart n e = ap (unmarked_from marks h) e
+-- a search through the harts finds the lowest that is not marked
+pub find_is_unmarked : (marks h n : ℕ) → find (λ k. not (bit marks k)) (range_with_len h n) ≡ unmarked_from marks h n
+find_is_unmarked marks h zero = refl
+find_is_unmarked marks h (suc n) = at (bit marks h) (find_is_unmarked marks (h + 1) n)
+  where
+    at : (b : Bool) {x y : Option ℕ} → x ≡ y → cond (not b) (Some h) x ≡ cond b y (Some h)
+    at true e = e
+    at false e = refl
 
-  pub unmarked_here : h < harts → bit marks h ≡ false → unmarked_from marks h (harts - h) ≡ Some h
-  unmarked_here inside e = at_hart (suc (harts - (h + 1))) (omega arith) ∙ cond-false (bit marks h) _ _ e
-
-  pub unmarked_past : h < harts → bit marks h ≡ true → unmarked_from marks h (harts - h) ≡ unmarked_from marks (h + 1) (harts - (h + 1))
-  unmarked_past inside e = at_hart (suc (harts - (h + 1))) (omega arith) ∙ cond-true (bit marks h) _ _ e
-
-  pub unmarked_none : harts ≤ h → unmarked_from marks h (harts - h) ≡ None
-  unmarked_none past = at_hart 0 (omega arith)
+-- a set of eight bits has no bit past them
+pub no_bit_past : (marks h : ℕ) → marks < 2 ^ 8 → 8 ≤ h → bit marks h ≡ false
+no_bit_past marks h low past =
+    let more : 2 ^ 8 ≤ 2 ^ h = pow-le-pow_right {n = 2} (omega arith) past in
+    let none : marks / 2 ^ h ≡ 0 = div-eq_of_lt (omega arith) in
+    ap (λ (q : ℕ). q % 2 == 1) none

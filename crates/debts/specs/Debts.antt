@@ -36,7 +36,7 @@ number_of v = number_at v.next (room v)
 
 -- no hart is marked on a new debt
 abbrev pub new_debt : ℕ → ℕ → ℕ → Option ℕ → Debt
-new_debt number space page frame = record { number = number; space = space; page = page; frame = frame; marks = 0 }
+new_debt number space page frame = record { number = number; of = record { space = space; page = page }; frame = frame; marks = 0 }
 
 abbrev pub opened_at : Debts → Debt → Option ℕ → Debts
 opened_at v d None = v
@@ -57,11 +57,11 @@ open_count v = count_by is_some v.slots
 
 -- a debt that a fence of a space or all, at a page or all, covers has its hart marked after it
 abbrev pub covers : Option ℕ → Option ℕ → Debt → Bool
-covers space page d = matches space d.space && matches page d.page
+covers space page d = matches space d.of.space && matches page d.of.page
 
 abbrev pub with_mark : ℕ → Debt → Debt
 with_mark hart d =
-    record { number = d.number; space = d.space; page = d.page; frame = d.frame; marks = bit_or d.marks (2 ^ hart) }
+    record { number = d.number; of = d.of; frame = d.frame; marks = bit_or d.marks (2 ^ hart) }
 
 abbrev pub marked_by : ℕ → Option ℕ → Option ℕ → Option Debt → Option Debt
 marked_by hart space page None = None

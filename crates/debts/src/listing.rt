@@ -3,6 +3,7 @@ use crate::debt::Debt;
 use crate::settling::Unsettled;
 use std::error::Error;
 use std::fmt;
+use tlb::PageId;
 
 /// The harts marked on a debt, from the lowest.
 #[derive(Clone, Copy)]
@@ -25,8 +26,7 @@ impl fmt::Display for Marked {
 impl fmt::Display for Debt {
     fn fmt<W: fmt::Write>(&self, f: &mut fmt::Formatter<W>) -> fmt::Result {
         let number = self.number;
-        let space = self.space;
-        let page = self.page;
+        let PageId { space, page } = self.of;
         let marked = Marked(*self);
         write!(f, "debt {number}: space {space}, page {page:#x}, ")?;
         match self.frame {

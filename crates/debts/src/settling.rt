@@ -1,12 +1,12 @@
 // Opening debts, marking harts on them, and settling them.
-ghost use Rattle.std.specs.Prelude.{◌≡◌, ◌<◌, ◌≤◌};
+ghost use Rattle.std.specs.Prelude.{◌≡◌};
 ghost use Rattle.sv39.specs.Layout.{bit};
-ghost use Rattle.debts.specs.Debts.{debts_of, room, can_open, number_of, opened, open_debt, covers, with_mark, marked_by, fenced, lowest_unmarked, settle_of, settled, refusal_number};
+ghost use Rattle.debts.specs.Debts.{debts_of, room, can_open, number_of, opened, open_debt, with_mark, marked_by, fenced, lowest_unmarked, settle_of, settled, refusal_number};
 ghost use Rattle.debts.specs.Debts as value;
 
 use crate::debt::Debt;
 use crate::ledger::Ledger;
-use tlb::{is_asked, lowest_empty};
+use tlb::{HartId, PageId, Scope, lowest_empty};
 
 /// Why a debt is not settled.
 #[derive(Clone, Copy, PartialEq, Eq, Debug)]
@@ -32,56 +32,36 @@ impl Unsettled {
 impl Debt {
     /// Whether a hart has fenced the page since.
     pub fn is_marked(&self, hart: usize) -> bool
-        requires { hart < 8 }
         ensures { result ≡ bit self.now.marks hart }
     {
-        self.marks >> hart & 1 == 1
+        let marks = self.marks;
+        hart < 8 && marks >> hart & 1 == 1
     }
 
     /// The lowest of the first `harts` harts that is not marked.
     pub fn lowest_unmarked(&self, harts: usize) -> Option<usize>
-        requires { harts ≤ 8 }
         ensures { result ≡ lowest_unmarked self.now.marks harts }
     {
-        for hart in 0..harts {
-            if !self.is_marked(hart) {
-                return Some(hart);
-            }
-        }
-        None
-    }
-
-    /// Whether it is for these: a space or all, a page or all.
-    fn is_covered(&self, space: Option<u64>, page: Option<u64>) -> bool
-        ensures { result ≡ covers space page self.now }
-    {
-        is_asked(space, self.space) && is_asked(page, self.page)
+        (0..harts).find(|hart| !self.is_marked(*hart))
     }
 
     /// This debt with a hart marked.
-    fn with_mark(self, hart: usize) -> Debt
-        requires { hart < 8 }
-        ensures { result ≡ with_mark hart self }
+    fn with_mark(self, hart: HartId) -> Debt
+        ensures { result ≡ with_mark hart.number self }
     {
         Debt {
-            marks: self.marks | 1 << hart,
+            marks: self.marks | 1 << hart.number,
             ..self
         }
     }
 }
 
-/// What a hart's fence of a space or all, at a page or all, makes of a slot.
-fn fenced_slot(
-    slot: Option<Debt>,
-    hart: usize,
-    space: Option<u64>,
-    page: Option<u64>,
-) -> Option<Debt>
-    requires { hart < 8 }
-    ensures { result ≡ marked_by hart space page slot }
+/// What a hart's fence makes of a slot.
+fn fenced_slot(slot: Option<Debt>, hart: HartId, scope: Scope) -> Option<Debt>
+    ensures { result ≡ marked_by hart.number scope.space scope.page slot }
 {
     match slot {
-        Some(debt) if debt.is_covered(space, page) => Some(debt.with_mark(hart)),
+        Some(debt) if scope.covers(debt.of) => Some(debt.with_mark(hart)),
         _ => slot,
     }
 }
@@ -117,16 +97,15 @@ impl Ledger {
 
     /// Opens a debt on a page of a space, with no hart marked, and answers its number; none, and nothing is opened,
     /// where 64 are open or 2^32 were numbered.
-    pub fn open(&mut self, space: u64, page: u64, frame: Option<u64>) -> Option<u64>
+    pub fn open(&mut self, of: PageId, frame: Option<u64>) -> Option<u64>
         ensures number { result ≡ number_of (debts_of self.old) }
-        ensures after { debts_of self.new ≡ opened (debts_of self.old) space page frame }
+        ensures after { debts_of self.new ≡ opened (debts_of self.old) of.space of.page frame }
     {
         let slot = self.room()?;
         let number = self.next;
         self.slots[slot] = Some(Debt {
             number,
-            space,
-            page,
+            of,
             frame,
             marks: 0,
         });
@@ -138,41 +117,33 @@ impl Ledger {
     pub fn find(&self, number: u64) -> Option<(usize, Debt)>
         ensures { result ≡ open_debt number 0 self.now.slots }
     {
-        for (i, slot) in self.slots.iter().enumerate() {
-            if let Some(debt) = slot {
-                if debt.number == number {
-                    return Some((i, *debt));
-                }
-            }
-        }
-        None
+        let slot = self
+            .slots
+            .iter()
+            .position(|slot| slot.is_some_and(|debt| debt.number == number))?;
+        let debt = self.slots[slot]?;
+        Some((slot, debt))
     }
 
-    /// Marks a hart on every open debt of a space or all, at a page or all.
-    pub fn fence(&mut self, hart: usize, space: Option<u64>, page: Option<u64>)
-        requires { hart < 8 }
-        ensures { debts_of self.new ≡ fenced (debts_of self.old) hart space page }
+    /// Marks a hart on every open debt that its fence is for.
+    pub fn fence(&mut self, hart: HartId, scope: Scope)
+        ensures { debts_of self.new ≡ fenced (debts_of self.old) hart.number scope.space scope.page }
     {
-        for i in 0..64 {
-            self.slots[i] = fenced_slot(self.slots[i], hart, space, page);
+        for slot in &mut self.slots {
+            *slot = fenced_slot(*slot, hart, scope);
         }
     }
 
     /// Closes a debt on which each of the first `harts` harts is marked, and answers the frame that it releases.
     pub fn settle(&mut self, number: u64, harts: usize) -> Result<Option<u64>, Unsettled>
-        requires { harts ≤ 8 }
         ensures answer { result ≡ settle_of (debts_of self.old) number harts }
         ensures after { debts_of self.new ≡ settled (debts_of self.old) number harts }
     {
-        let Some((slot, debt)) = self.find(number) else {
-            return Err(Unsettled::NotOpen);
-        };
-        match debt.lowest_unmarked(harts) {
-            Some(hart) => Err(Unsettled::Unmarked(hart)),
-            None => {
-                self.slots[slot] = None;
-                Ok(debt.frame)
-            }
+        let (slot, debt) = self.find(number).ok_or(Unsettled::NotOpen)?;
+        if let Some(hart) = debt.lowest_unmarked(harts) {
+            return Err(Unsettled::Unmarked(hart));
         }
+        self.slots[slot] = None;
+        Ok(debt.frame)
     }
 }

@@ -9,12 +9,6 @@ impl Ledger {
     pub fn count(&self) -> usize
         ensures { result ≡ open_count (debts_of self.now) }
     {
-        let mut count = 0;
-        for slot in self.slots.iter() {
-            if slot.is_some() {
-                count += 1;
-            }
-        }
-        count
+        self.slots.iter().filter(|slot| slot.is_some()).count()
     }
 }

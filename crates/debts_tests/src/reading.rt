@@ -2,7 +2,7 @@
 use debts::{Debt, Unsettled};
 use std::test::Fail;
 use sv39::{Access, Flags, Kind, Mode};
-use tlb::{Row, Way};
+use tlb::{PageId, Row, Way};
 
 fn way(page: u64, frame: u64, w: bool) -> Way {
     let flags = Flags {
@@ -15,7 +15,7 @@ fn way(page: u64, frame: u64, w: bool) -> Way {
         a: true,
         d: w,
     };
-    Way::new(0, page, frame, flags)
+    Way::new(PageId { space: 0, page }, frame, flags)
 }
 
 #[test]
@@ -44,15 +44,21 @@ fn a_wide_frame_is_served_narrow(rt: HostRuntime) {
         sum: false,
         mxr: false,
     };
-    assert_eq!(rt; row.try_way(0, 0x2000, &access), Some((15, 6)));
+    let page = PageId {
+        space: 0,
+        page: 0x2000,
+    };
+    assert_eq!(rt; row.try_way(page, &access), Some((15, 6)));
 }
 
 #[test]
 fn a_debt_says_what_it_releases_and_who_is_marked(rt: HostRuntime) -> Result<(), Fail> {
     let debt = Debt {
         number: 3,
-        space: 0,
-        page: 0x1000,
+        of: PageId {
+            space: 0,
+            page: 0x1000,
+        },
         frame: Some(5),
         marks: 0x85,
     };

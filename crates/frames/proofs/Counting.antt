@@ -2,7 +2,9 @@
 use Rattle.std.proofs.Common.{◌≡◌, ℕ, zero, suc, ◌+◌, ◌<◌, List, [], ◌∷◌, length, get_or, set, replicate, refl, arith}
 use Rattle.frames.specs.declared.state.FrameState.{FrameState}
 use Rattle.frames.specs.declared.state.FrameState.TheVariants.{Free}
-use Rattle.frames.specs.Busy.{one, busy}
+use Rattle.frames.specs.declared.state.Use.{Use}
+use Rattle.frames.specs.declared.state.Use.TheVariants as use_of
+use Rattle.frames.specs.Busy.{one, busy, state_of_use}
 
 -- one frame's state changed changes the count by that frame alone
 pub busy_set : (states : List FrameState) (f : ℕ) (s : FrameState) → f < length states → busy (set states f s) + one (get_or states f Free) ≡ busy states + one s
@@ -21,3 +23,10 @@ pub all_free : (n f : ℕ) → get_or (replicate n Free) f Free ≡ Free
 all_free zero f = refl
 all_free (suc n) zero = refl
 all_free (suc n) (suc f) = all_free n f
+
+-- a frame in use is busy
+pub busy_use : (used : Use) → one (state_of_use used) ≡ 1
+busy_use use_of.Table = refl
+busy_use use_of.Held = refl
+busy_use use_of.Mapped = refl
+busy_use use_of.Owed = refl

@@ -18,15 +18,17 @@ Apart frames height = (i j : ℕ) → i < j → j < height → get_or frames i 0
 abbrev pub Unused : List FrameState → ℕ → Type 0
 Unused states mark = (f : ℕ) → mark ≤ f → get_or states f Free ≡ Free
 
--- the facts of a pool, in the order of its ghost fields
-abbrev pub Sound : List FrameState → List ℕ → ℕ → ℕ → ℕ → Type 0
-Sound states frames height mark limit =
-    ((length states ≡ 1024) × (length frames ≡ 1024))
-    × (((mark ≤ limit) × (limit ≤ 1024))
-    × ((height + busy states ≡ mark) × (Piled states frames height mark × (Apart frames height × (Unused states mark × Unit {0})))))
+-- the facts of a pool, as its ghost fields have them
+pub record Sound (states : List FrameState) (frames : List ℕ) (height mark limit : ℕ) : Type 0 where
+  pub full : (length states ≡ 1024) × (length frames ≡ 1024)
+  pub bounds : (mark ≤ limit) × (limit ≤ 1024)
+  pub balance : height + busy states ≡ mark
+  pub piled : Piled states frames height mark
+  pub apart : Apart frames height
+  pub unused : Unused states mark
 
 pub sound : (p : Pool) → Sound p.states p.pile.frames p.pile.height p.mark p.limit
-sound p = (p.full, (p.bounds, (p.balance, (p.piled, (p.apart, (p.unused, tt))))))
+sound p = record { full = p.full; bounds = p.bounds; balance = p.balance; piled = p.piled; apart = p.apart; unused = p.unused }
 
 -- a free frame is no busy one
 pub differ : (states : List FrameState) (a b : ℕ) → get_or states a Free ≡ Free → one (get_or states b Free) ≡ 1 → a ≡ b → ⊥
@@ -40,7 +42,7 @@ module _ (states : List FrameState) (frames : List ℕ) (height mark limit : ℕ
   pub busy_below : (f : ℕ) → one (get_or states f Free) ≡ 1 → f < mark
   busy_below f h =
       ⊎_elim (λ (l : f < mark). l)
-      (λ (l : mark ≤ f). absurd (differ states f f (s.1.1.1.1.1.0 f l) h refl)) (cases_lt f mark)
+      (λ (l : mark ≤ f). absurd (differ states f f (s.unused f l) h refl)) (cases_lt f mark)
 
   -- a busy frame to another use
   pub changed_sound : (f : ℕ) (to : FrameState) → one (get_or states f Free) ≡ 1 → one to ≡ 1 → Sound (set states f to) frames height mark limit
@@ -48,28 +50,21 @@ module _ (states : List FrameState) (frames : List ℕ) (height mark limit : ℕ
       let inside = busy_inside states f h in
       let count = busy_set states f to inside in
       let below = busy_below f h in
-      let balance = s.1.1.0 in (
-        (length-set states f to ∙ s.0.0, s.0.1),
-        (
-          s.1.0,
-          (
-            omega arith,
-            (
-              (λ i l. ((s.1.1.1.0 i l).0, get_or-set_other states f (get_or frames i 0) to Free (differ states (get_or frames i 0) f (s.1.1.1.0 i l).1 h) ∙ (s.1.1.1.0 i l).1)),
-              (
-                s.1.1.1.1.0,
-                ((λ k l. get_or-set_other states f k to Free (λ e. omega arith) ∙ s.1.1.1.1.1.0 k l), tt),
-              ),
-            ),
-          ),
-        ),
-      )
+      let balance = s.balance in
+      record {
+        full = (length-set states f to ∙ s.full.0, s.full.1);
+        bounds = s.bounds;
+        balance = omega arith;
+        piled = λ i l. ((s.piled i l).0, get_or-set_other states f (get_or frames i 0) to Free (differ states (get_or frames i 0) f (s.piled i l).1 h) ∙ (s.piled i l).1);
+        apart = s.apart;
+        unused = λ k l. get_or-set_other states f k to Free (λ e. omega arith) ∙ s.unused k l;
+      }
 
   -- where a frame is busy the pile has room
   pub room_left : (f : ℕ) → one (get_or states f Free) ≡ 1 → (height < length frames) × (height < 1024)
   room_left f h =
       let count = busy_set states f Free (busy_inside states f h) in
-      let balance = s.1.1.0 in
+      let balance = s.balance in
       (omega arith, omega arith)
 
   -- a busy frame onto the pile
@@ -94,7 +89,7 @@ module _ (states : List FrameState) (frames : List ℕ) (height mark limit : ℕ
         (omega arith, ap (λ (n : ℕ). get_or (set states f Free) n Free) e ∙ get_or-set_same states f Free Free (busy_inside states f h)))
         (λ (q : i ≡ height → ⊥).
         let e = kept i q in
-        let old = s.1.1.1.0 i (omega arith) in
+        let old = s.piled i (omega arith) in
         (omega arith, ap (λ (n : ℕ). get_or (set states f Free) n Free) e ∙ freed (get_or frames i 0) old.1)) (cases_eq i height)
 
     pub released_apart : Apart (set frames height f) (height + 1)
@@ -103,79 +98,62 @@ module _ (states : List FrameState) (frames : List ℕ) (height mark limit : ℕ
         ⊎_elim
         (λ (q : j ≡ height).
         let ej : get_or (set frames height f) j 0 ≡ f = ap (λ (n : ℕ). get_or (set frames height f) n 0) q ∙ top in
-        differ states (get_or frames i 0) f (s.1.1.1.0 i (omega arith)).1 h (sym ei ∙ e ∙ ej))
-        (λ (q : j ≡ height → ⊥). s.1.1.1.1.0 i j l (omega arith) (sym ei ∙ e ∙ kept j q)) (cases_eq j height)
+        differ states (get_or frames i 0) f (s.piled i (omega arith)).1 h (sym ei ∙ e ∙ ej))
+        (λ (q : j ≡ height → ⊥). s.apart i j l (omega arith) (sym ei ∙ e ∙ kept j q)) (cases_eq j height)
 
     pub released_sound : Sound (set states f Free) (set frames height f) (height + 1) mark limit
     released_sound =
         let count = busy_set states f Free (busy_inside states f h) in
         let below = busy_below f h in
-        let balance = s.1.1.0 in (
-          (length-set states f Free ∙ s.0.0, length-set frames height f ∙ s.0.1),
-          (
-            s.1.0,
-            (
-              omega arith,
-              (
-                released_piled,
-                (
-                  released_apart,
-                  ((λ k l. get_or-set_other states f k Free Free (λ e. omega arith) ∙ s.1.1.1.1.1.0 k l), tt),
-                ),
-              ),
-            ),
-          ),
-        )
+        let balance = s.balance in
+        record {
+          full = (length-set states f Free ∙ s.full.0, length-set frames height f ∙ s.full.1);
+          bounds = s.bounds;
+          balance = omega arith;
+          piled = released_piled;
+          apart = released_apart;
+          unused = λ k l. get_or-set_other states f k Free Free (λ e. omega arith) ∙ s.unused k l;
+        }
 
   -- the top of the pile taken
   pub popped_sound : (to : FrameState) → 0 < height → one to ≡ 1 → Sound (set states (get_or frames (height - 1) 0) to) frames (height - 1) mark limit
   popped_sound to some t =
       let f : ℕ = get_or frames (height - 1) 0 in
-      let old = s.1.1.1.0 (height - 1) (omega arith) in
+      let old = s.piled (height - 1) (omega arith) in
+      let bounds = s.bounds in
+      let full = s.full in
       let inside : f < length states = omega arith in
       let free : one (get_or states f Free) ≡ 0 = ap one old.1 in
       let count = busy_set states f to inside in
-      let balance = s.1.1.0 in (
-        (length-set states f to ∙ s.0.0, s.0.1),
-        (
-          s.1.0,
-          (
-            omega arith,
-            (
-              (λ i l. (
-                (s.1.1.1.0 i (omega arith)).0,
-                get_or-set_other states f (get_or frames i 0) to Free (s.1.1.1.1.0 i (height - 1) l (omega arith)) ∙ (s.1.1.1.0 i (omega arith)).1,
-              )),
-              (
-                (λ i j l u e. s.1.1.1.1.0 i j l (omega arith) e),
-                ((λ k l. get_or-set_other states f k to Free (λ e. omega arith) ∙ s.1.1.1.1.1.0 k l), tt),
-              ),
-            ),
-          ),
-        ),
-      )
+      let balance = s.balance in
+      record {
+        full = (length-set states f to ∙ s.full.0, s.full.1);
+        bounds = s.bounds;
+        balance = omega arith;
+        piled = λ i l. (
+          (s.piled i (omega arith)).0,
+          get_or-set_other states f (get_or frames i 0) to Free (s.apart i (height - 1) l (omega arith)) ∙ (s.piled i (omega arith)).1,
+        );
+        apart = λ i j l u e. s.apart i j l (omega arith) e;
+        unused = λ k l. get_or-set_other states f k to Free (λ e. omega arith) ∙ s.unused k l;
+      }
 
   -- the lowest frame never used taken
   pub unused_sound : (to : FrameState) → mark < limit → one to ≡ 1 → Sound (set states mark to) frames height (mark + 1) limit
   unused_sound to l t =
+      let bounds = s.bounds in
+      let full = s.full in
       let inside : mark < length states = omega arith in
-      let free : one (get_or states mark Free) ≡ 0 = ap one (s.1.1.1.1.1.0 mark (omega arith)) in
+      let free : one (get_or states mark Free) ≡ 0 = ap one (s.unused mark (omega arith)) in
       let count = busy_set states mark to inside in
-      let balance = s.1.1.0 in (
-        (length-set states mark to ∙ s.0.0, s.0.1),
-        (
-          (omega arith, s.1.0.1),
-          (
-            omega arith,
-            (
-              (λ i u.
-                  let old = s.1.1.1.0 i u in
-                  (omega arith, get_or-set_other states mark (get_or frames i 0) to Free (λ e. omega arith) ∙ old.1)),
-              (
-                s.1.1.1.1.0,
-                ((λ k u. get_or-set_other states mark k to Free (λ e. omega arith) ∙ s.1.1.1.1.1.0 k (omega arith)), tt),
-              ),
-            ),
-          ),
-        ),
-      )
+      let balance = s.balance in
+      record {
+        full = (length-set states mark to ∙ s.full.0, s.full.1);
+        bounds = (omega arith, s.bounds.1);
+        balance = omega arith;
+        piled = λ i u.
+            let old = s.piled i u in
+            (omega arith, get_or-set_other states mark (get_or frames i 0) to Free (λ e. omega arith) ∙ old.1);
+        apart = s.apart;
+        unused = λ k u. get_or-set_other states mark k to Free (λ e. omega arith) ∙ s.unused k (omega arith);
+      }

@@ -2,6 +2,8 @@
 use Rattle.std.specs.Prelude.{ℕ, ◌+◌, Bool, List, [], ◌∷◌, ◌==◌}
 use Rattle.frames.specs.declared.state.FrameState.{FrameState}
 use Rattle.frames.specs.declared.state.FrameState.TheVariants.{Free, Table, Held, Mapped, Owed}
+use Rattle.frames.specs.declared.state.Use.{Use}
+use Rattle.frames.specs.declared.state.Use.TheVariants as use_of
 
 -- the uses numbered, so that two can be compared
 abbrev pub tag : FrameState → ℕ
@@ -25,3 +27,10 @@ one Owed = 1
 abbrev pub busy : List FrameState → ℕ
 busy [] = 0
 busy (s ∷ states) = one s + busy states
+
+-- a use as the state of its frame
+abbrev pub state_of_use : Use → FrameState
+state_of_use use_of.Table = Table
+state_of_use use_of.Held = Held
+state_of_use use_of.Mapped = Mapped
+state_of_use use_of.Owed = Owed

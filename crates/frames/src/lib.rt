@@ -9,4 +9,4 @@ mod taking;
 mod tally;
 
 pub use pool::Pool;
-pub use state::FrameState;
+pub use state::{FrameState, Use};

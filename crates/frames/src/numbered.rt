@@ -1,29 +1,25 @@
 // Frames by their numbers and their uses.
-ghost use Rattle.std.specs.Prelude.{◌≡◌, if◌then◌else◌, Some, None};
-ghost use Rattle.frames.specs.Busy.{one};
-ghost use Rattle.frames.specs.Frames.{frames_of, next, taken, is_in, turned, freed};
+ghost use Rattle.std.specs.Prelude.{◌≡◌, if◌then◌else◌, Some, None, nat_lt, slice_index_or};
+ghost use Rattle.frames.specs.declared.state.FrameState.TheVariants.{Free};
+ghost use Rattle.frames.specs.Busy.{one, state_of_use};
+ghost use Rattle.frames.specs.Frames.{frames_of, is_in, turned, freed, released, changed};
 
 use crate::pool::Pool;
-use crate::state::FrameState;
+use crate::state::{FrameState, Use};
 
 impl Pool {
-    /// Takes the next frame; its number fits 16 bits, as no pool has more than 1,024 frames.
-    pub fn take_number(&mut self, to: FrameState) -> Option<u16>
-        requires { one to ≡ 1 }
-        ensures frame { result ≡ next (frames_of self.old) }
-        ensures after { frames_of self.new ≡ taken (frames_of self.old) to }
+    /// The state of a frame, if it is one of the pool's.
+    pub fn state_of(&self, frame: u64) -> Option<FrameState>
+        ensures { result ≡ (if nat_lt frame (frames_of self.now).limit then Some (slice_index_or (frames_of self.now).states frame Free) else None) }
     {
-        match self.take(to) {
-            Some(frame) => Some(frame as u16),
-            None => None,
-        }
+        self.live().get(frame as usize).copied()
     }
 
     /// A number as that of a frame of the pool in this state.
     pub fn find(&self, frame: u64, state: FrameState) -> Option<u16>
         ensures { result ≡ (if is_in (frames_of self.now) frame state then Some frame else None) }
     {
-        if frame < self.limit as u64 && self.states[frame as usize].is(state) {
+        if self.state_of(frame) == Some(state) {
             Some(frame as u16)
         } else {
             None
@@ -31,28 +27,43 @@ impl Pool {
     }
 
     /// Puts a frame that is in one use to another, and answers whether it was.
-    pub fn turn(&mut self, frame: u64, from: FrameState, to: FrameState) -> bool
-        requires { (one from ≡ 1) × (one to ≡ 1) }
-        ensures answer { result ≡ is_in (frames_of self.old) frame from }
-        ensures after { frames_of self.new ≡ turned (frames_of self.old) frame from to }
+    pub fn turn(&mut self, frame: u64, from: Use, to: Use) -> bool
+        ensures answer { result ≡ is_in (frames_of self.old) frame (state_of_use from) }
+        ensures after { frames_of self.new ≡ turned (frames_of self.old) frame (state_of_use from) (state_of_use to) }
     {
-        let Some(found) = self.find(frame, from) else {
+        let Some(found) = self.find(frame, from.into()) else {
             return false;
         };
-        self.change(found as usize, to);
+        self.change(found, to);
         true
     }
 
     /// Puts a frame that is in a use on the pile, free, and answers whether it was.
-    pub fn free(&mut self, frame: u64, from: FrameState) -> bool
-        requires { one from ≡ 1 }
-        ensures answer { result ≡ is_in (frames_of self.old) frame from }
-        ensures after { frames_of self.new ≡ freed (frames_of self.old) frame from }
+    pub fn free(&mut self, frame: u64, from: Use) -> bool
+        ensures answer { result ≡ is_in (frames_of self.old) frame (state_of_use from) }
+        ensures after { frames_of self.new ≡ freed (frames_of self.old) frame (state_of_use from) }
     {
-        let Some(found) = self.find(frame, from) else {
+        let Some(found) = self.find(frame, from.into()) else {
             return false;
         };
-        self.release(found as usize);
+        self.release(found);
         true
+    }
+
+    /// Puts a busy frame to another use.
+    fn change(&mut self, frame: u16, into: Use)
+        requires { one (slice_index_or (frames_of self.old).states frame Free) ≡ 1 }
+        ensures { frames_of self.new ≡ changed (frames_of self.old) frame (state_of_use into) }
+    {
+        self.states[usize::from(frame)] = into.into();
+    }
+
+    /// Puts a busy frame on the pile.
+    fn release(&mut self, frame: u16)
+        requires { one (slice_index_or (frames_of self.old).states frame Free) ≡ 1 }
+        ensures { frames_of self.new ≡ released (frames_of self.old) frame }
+    {
+        self.states[usize::from(frame)] = FrameState::Free;
+        self.pile.push(frame);
     }
 }

@@ -1,6 +1,7 @@
 // The pile of released frames: the last put on goes first.
 ghost use Rattle.std.specs.Prelude.{◌≡◌, ◌+◌, ◌-◌, ◌<◌, ◌≤◌, replicate, if◌then◌else◌, Some, None, nat_lt, slice_index, slice_set};
 
+/// An array with its height, since a `Pool` is `Copy` and an `ArrayVec` is not.
 #[derive(Clone, Copy)]
 pub struct Pile {
     pub frames: [u16; 1024],
@@ -20,7 +21,7 @@ impl Pile {
     }
 
     /// Takes the frame on top off, if there is one.
-    pub fn pop(&mut self) -> Option<usize>
+    pub fn pop(&mut self) -> Option<u16>
         ensures top { result ≡ (if nat_lt 0 self.old.height then Some (slice_index self.old.frames (self.old.height - 1)) else None) }
         ensures height { self.new.height ≡ self.old.height - 1 }
         ensures frames { self.new.frames ≡ self.old.frames }
@@ -29,16 +30,16 @@ impl Pile {
             return None;
         }
         self.height -= 1;
-        Some(self.frames[self.height] as usize)
+        Some(self.frames[self.height])
     }
 
     /// Puts a frame on top.
-    pub fn push(&mut self, frame: usize)
-        requires { (self.old.height < 1024) × (frame < 1024) }
+    pub fn push(&mut self, frame: u16)
+        requires { self.old.height < 1024 }
         ensures height { self.new.height ≡ self.old.height + 1 }
         ensures frames { self.new.frames ≡ slice_set self.old.frames self.old.height frame }
     {
-        self.frames[self.height] = frame as u16;
+        self.frames[self.height] = frame;
         self.height += 1;
     }
 }

@@ -1,6 +1,6 @@
 // What a frame is used for.
 ghost use Rattle.std.specs.Prelude.{◌≡◌};
-ghost use Rattle.frames.specs.Busy.{same};
+ghost use Rattle.frames.specs.Busy.{state_of_use};
 
 use std::fmt;
 
@@ -14,12 +14,25 @@ pub enum FrameState {
     Owed,
 }
 
-impl FrameState {
-    /// Whether two uses are the same.
-    pub fn is(self, other: FrameState) -> bool
-        ensures { result ≡ same self other }
-    {
-        self as u8 == other as u8
+/// What a busy frame is used for: each state but free.
+#[derive(Clone, Copy, PartialEq, Eq, Debug)]
+pub enum Use {
+    Table,
+    Held,
+    Mapped,
+    Owed,
+}
+
+impl From<Use> for FrameState {
+    ghost from_gives = { λ used state. state ≡ state_of_use used };
+
+    fn from(used: Use) -> FrameState {
+        match used {
+            Use::Table => FrameState::Table,
+            Use::Held => FrameState::Held,
+            Use::Mapped => FrameState::Mapped,
+            Use::Owed => FrameState::Owed,
+        }
     }
 }
 

@@ -10,12 +10,6 @@ impl Pool {
     pub fn count(&self, state: FrameState) -> usize
         ensures { result ≡ count_in (frames_of self.now) state }
     {
-        let mut count = 0;
-        for i in 0..self.limit {
-            if self.states[i].is(state) {
-                count += 1;
-            }
-        }
-        count
+        self.live().iter().filter(|s| **s == state).count()
     }
 }

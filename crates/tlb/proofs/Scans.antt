@@ -1,7 +1,7 @@
 -- Going through a row way by way.
 use Rattle.std.proofs.Common.{◌≡◌, ℕ, ◌+◌, ◌-◌, ◌<◌, ◌≤◌, Bool, true, false, cond, List, [], ◌∷◌, ◌++◌, length, get_or, take, drop, set, Some, None, Option, sym, refl, ap, ◌∙◌, arith}
 use Rattle.std.proofs.lemmas.List.Edits.{map_over_more}
-use Rattle.std.proofs.lemmas.List.{take_more, take_all, drop_all, set-get_or, append-nil, length-take-le, length-drop, length-append, length-map, get_or-append_right, get_or-drop, get_or_default}
+use Rattle.std.proofs.lemmas.List.{take_more, take_all, drop_all, set-get_or, append-nil, length-take-le, length-map, get_or-append_right, get_or-drop, get_or_default}
 use Rattle.std.proofs.lemmas.List.Sums.{sum_by_push}
 use Rattle.std.proofs.lemmas.Bool.{cond-true, cond-false}
 use Rattle.tlb.specs.declared.way.Way.{Way}
@@ -9,6 +9,7 @@ use Rattle.tlb.specs.Rows.{found, covers, spared, covered, fenced, emptied}
 use Rattle.std.specs.List.{position, position_from}
 use Rattle.std.proofs.lemmas.Iterator.Adapters.{position_from-zero}
 use Rattle.tlb.specs.Ways.{speaks_for}
+use Rattle.tlb.proofs.Sparse.{inside_still}
 
 -- whether a way is held and for a page of a space
 abbrev pub holds_for : ℕ → ℕ → Option Way → Bool
@@ -33,15 +34,9 @@ module _ (space page : Option ℕ) (xs ys : List (Option Way)) (i : ℕ) (inside
       ∙ get_or-append_right (fenced space page (take i xs)) (drop i xs) i i None l (omega arith)
       ∙ get_or-drop i xs (i - i) None ∙ ap (λ (n : ℕ). get_or xs n None) z
 
-  inside_now : i < length ys
-  inside_now =
-      let l = length-take-le i xs (omega arith) in
-      let d = length-drop i xs in
-      omega (arith, simp (length-append, length-map) at (ap length so_far))
-
   -- what the fence does at way i: o was there, and what is spared of it stays
   pub fenced_more : (o : Option Way) → get_or ys i None ≡ o → set ys i (spared space page o) ≡ fenced space page (take (i + 1) xs) ++ drop (i + 1) xs
-  fenced_more o e = map_over_more (spared space page) xs ys i o inside so_far (sym e ∙ get_or_default ys i None o inside_now)
+  fenced_more o e = map_over_more (spared space page) xs ys i o inside so_far (sym e ∙ get_or_default ys i None o (inside_still (spared space page) xs ys i inside so_far))
 
   pub unchanged : (o : Option Way) → get_or ys i None ≡ o → set ys i o ≡ ys
   unchanged o e = ap (set ys i) (sym e) ∙ set-get_or ys i None

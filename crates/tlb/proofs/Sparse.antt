@@ -1,6 +1,7 @@
 -- Going through slots one by one.
-use Rattle.std.proofs.Common.{◌≡◌, ℕ, ◌+◌, ◌<◌, not, List, [], ◌∷◌, length, is_some, IfSome, Some, None, Option, sym, refl, ◌∙◌, arith}
+use Rattle.std.proofs.Common.{◌≡◌, ℕ, ◌+◌, ◌<◌, not, List, [], ◌∷◌, ◌++◌, map, take, drop, length, is_some, IfSome, Some, None, Option, sym, refl, ap, ◌∙◌, arith}
 use Rattle.std.specs.List.{position, position_from}
+use Rattle.std.proofs.lemmas.List.{length-take-le, length-drop, length-append, length-map}
 use Rattle.std.proofs.lemmas.Iterator.Adapters.{position_from-zero}
 use Rattle.tlb.specs.Slots.{empty_slot}
 
@@ -21,3 +22,10 @@ empty_below (Some held ∷ slots) i n e = let h : n < i + 1 + length slots = emp
 pub empty_each : {A : Type 0} (slots : List (Option A)) (n : ℕ) → length slots ≡ n → (o : Option ℕ) → o ≡ empty_slot 0 slots → IfSome o (λ k. k < n)
 empty_each slots n l None e = tt
 empty_each slots n l (Some k) e = let h = empty_below slots 0 k (sym e) in omega arith
+
+-- a list of which so many elements were rewritten is as long as it was
+pub inside_still : {A : Type 0} (f : A → A) (xs ys : List A) (i : ℕ) → i < length xs → ys ≡ map f (take i xs) ++ drop i xs → i < length ys
+inside_still f xs ys i inside so_far =
+    let l = length-take-le i xs (omega arith) in
+    let d = length-drop i xs in
+    omega (arith, simp (length-append, length-map) at (ap length so_far))

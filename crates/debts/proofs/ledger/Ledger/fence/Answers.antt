@@ -1,22 +1,18 @@
-use Rattle.std.proofs.Common.{set, ap, ◌∙◌, arith}
-use Rattle.debts.proofs.Ledgers.{marked_more, marked_all}
+use Rattle.std.proofs.Common.{◌<◌, length, get_or, set, None, ap, ◌∙◌, arith}
+use Rattle.std.proofs.lemmas.List.Edits.{map_over_more}
+use Rattle.std.proofs.lemmas.List.{get_or_default}
+use Rattle.tlb.proofs.Sparse.{inside_still}
+use Rattle.debts.specs.Debts.{marked_by}
 use Rattle.debts.proofs.ledger.Ledger.fence.Goals as goal
 
-pub loop-i-preserved : goal.loop-i-preserved
-loop-i-preserved c =
-    let l = c.args.self.now in
-    let full = l.full in
-    let m = c.loop-i.self in
-    let here = m.full in (
-      ap (set m.slots c.loop-i.i) c.fenced_slot.ensures
-          ∙ marked_more c.args.hart c.args.space c.args.page l.slots m.slots c.loop-i.i (omega arith) (omega arith) c.loop-i.invariant.0,
-      c.loop-i.invariant.1,
-    )
-
-pub returns : goal.returns
-returns c =
-    let l = c.args.self.now in
-    let full = l.full in
-    let slots = c.loop-i.invariant.0 ∙ marked_all c.args.hart c.args.space c.args.page l.slots c.loop-i.i (omega arith) in
-    let next = c.loop-i.invariant.1 in
-    λ i. record { slots = slots i; next = next i }
+pub loop-slot-preserved : goal.loop-slot-preserved
+loop-slot-preserved c =
+    let xs = c.args.self.now.slots in
+    let ys = c.loop-slot.slot-items in
+    let i = c.loop-slot.slot-index in
+    let full = c.args.self.now.full in
+    let inside : i < length c.args.self.now.slots = omega arith in
+    let mark = marked_by c.args.hart.number c.args.scope.space c.args.scope.page in
+    let there = inside_still mark xs ys i inside c.loop-slot.invariant in
+    ap (set ys i) c.fenced_slot.ensures
+    ∙ map_over_more mark xs ys i _ inside c.loop-slot.invariant (get_or_default ys i None (get_or ys i None) there)

@@ -2,8 +2,7 @@ use Rattle.std.proofs.Common.{◌≡◌, ◌++◌, map, take, drop}
 use Rattle.debts.specs.Debts.{marked_by}
 use Rattle.debts.proofs.ledger.Ledger.fence.Given as goal
 
--- the slots so far are fenced, the others and the next number are as they were
-abbrev pub invariant-loop-i : goal.invariant-loop-i
-invariant-loop-i l =
-    (l.self.slots ≡ map (marked_by l.hart l.space l.page) (take l.i l.initial.self.slots) ++ drop l.i l.initial.self.slots)
-    × (l.self.next ≡ l.initial.self.next)
+-- the slots so far are fenced, the others are as they were
+abbrev pub invariant-loop-slot : goal.invariant-loop-slot
+invariant-loop-slot l =
+    l.slot-items ≡ map (marked_by l.hart.number l.scope.space l.scope.page) (take l.slot-index l.fn.self.slots) ++ drop l.slot-index l.fn.self.slots

@@ -1,27 +1,27 @@
-use Rattle.std.proofs.Common.{◌<◌, length, sym, ◌∙◌, arith}
-use Rattle.debts.proofs.Ledgers.{open_here, open_past, open_past_empty, open_none}
+use Rattle.std.proofs.Common.{◌≡◌, Option, sym, ap, ◌∙◌, rules, tests}
+use Rattle.std.specs.List.{position}
+use Rattle.std.specs.Option.{option_map}
+use Rattle.std.proofs.lemmas.Iterator.{YieldsList-from_slice}
+use Rattle.std.proofs.lemmas.Iterator.Search.{position_from_yields_List}
+use Rattle.debts.specs.declared.debt.Debt.{Debt}
+use Rattle.debts.proofs.Ledgers.{is_numbered, open_found, open_not_found}
 use Rattle.debts.proofs.ledger.Ledger.find.Goals as goal
-use Rattle.debts.proofs.ledger.Ledger.find.Goals.{in-Some+else-debt-number, in_default}
+use Rattle.debts.proofs.ledger.Ledger.find.Goals.{After-position}
 
-pub loop-i-preserved : goal.loop-i-preserved
-loop-i-preserved c =
-    let l = c.args.self.now in
-    let full = l.full in
-    let inside : c.loop-i.i < length l.slots = omega arith in
-    elim c.match-slot.branch [
-      | in-Some+else-debt-number w ↦ sym (open_past l.slots c.loop-i.i c.args.number w.in-Some.debt inside w.in-Some.is w.if-debt-number.false) ∙ c.loop-i.invariant
-      | in_default w ↦ sym (open_past_empty l.slots c.loop-i.i c.args.number inside w.in_default.is) ∙ c.loop-i.invariant
-    ]
+-- the search goes for the number
+searched : (c : After-position) → c.position.result ≡ position (is_numbered c.args.number) c.args.self.now.slots
+searched c =
+    position_from_yields_List (is_numbered c.args.number) _ _ c.position.result c.position.ensures.ran (YieldsList-from_slice c.args.self.now.slots cc) (λ x b q k. search (rules, tests))
+
+pub returns-in_err-slot : goal.returns-in_err-slot
+returns-in_err-slot c =
+    c.from_residual.ensures
+    ∙ sym (open_not_found c.args.number c.args.self.now.slots (sym c.in_err-slot.was ∙ searched (goal.at.returns-in_err-slot c).After-position))
 
 pub returns : goal.returns
 returns c =
-    let l = c.args.self.now in
-    let full = l.full in
-    sym (open_none l.slots c.loop-i.i c.args.number (omega arith)) ∙ c.loop-i.invariant
-
-pub returns-then-debt-number : goal.returns-then-debt-number
-returns-then-debt-number c =
-    let l = c.args.self.now in
-    let full = l.full in
-    let inside : c.loop-i.i < length l.slots = omega arith in
-    sym (open_here l.slots c.loop-i.i c.args.number c.in-Some.debt inside c.in-Some.is c.if-debt-number.true) ∙ c.loop-i.invariant
+    let slots = c.args.self.now.slots in
+    let slot = c.in_ok-slot.slot in
+    sym
+    (open_found c.args.number slots slot (sym c.in_ok-slot.was ∙ searched (goal.at.returns c).After-position)
+    ∙ ap (λ (o : Option Debt). option_map (λ (d : Debt). (slot, d)) o) c.in_ok-debt.was)

@@ -1,8 +1,13 @@
+use Rattle.std.proofs.Common.{◌≡◌, ℕ, get_or, ap, ◌∙◌}
+use Rattle.frames.specs.declared.state.FrameState.TheVariants.{Free}
+use Rattle.frames.specs.Busy.{one}
+use Rattle.frames.proofs.Counting.{busy_use}
 use Rattle.frames.proofs.Soundness.{sound, changed_sound}
 use Rattle.frames.proofs.pool.Pool.change.Goals as goal
 
 pub invariant_of-self : goal.invariant_of-self
 invariant_of-self c =
     let p = c.args.self.now in
-    let m = changed_sound p.states p.pile.frames p.pile.height p.mark p.limit (sound p) c.args.frame c.args.into c.requires.0 c.requires.1 in
-    record { full = m.0; bounds = m.1.0; balance = m.1.1.0; piled = m.1.1.1.0; apart = m.1.1.1.1.0; unused = m.1.1.1.1.1.0 }
+    let at : one (get_or p.states c.from.result Free) ≡ 1 = ap (λ (n : ℕ). one (get_or p.states n Free)) c.from.ensures ∙ c.requires in
+    let m = changed_sound p.states p.pile.frames p.pile.height p.mark p.limit (sound p) c.from.result c.into.result at (ap one c.into.ensures ∙ busy_use c.args.into) in
+    record { full = m.full; bounds = m.bounds; balance = m.balance; piled = m.piled; apart = m.apart; unused = m.unused }
