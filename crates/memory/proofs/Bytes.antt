@@ -1,5 +1,6 @@
 -- Doublewords in bytes: what a write of bytes leaves, and that a doubleword's bytes read back as it.
-use Rattle.std.proofs.Common.{◌≡◌, ℕ, zero, suc, ◌+◌, ◌-◌, ◌^◌, ◌<◌, ◌≤◌, ◌⊎◌, List, [], ◌∷◌, ◌++◌, length, get_or, take, drop, sym, refl, ap, ◌∙◌, ⊎_elim, div-one, arith}
+use Rattle.std.proofs.Common.{◌≡◌, ℕ, zero, suc, ◌+◌, ◌-◌, ◌^◌, ◌<◌, ◌≤◌, ◌⊎◌, List, [], ◌∷◌, ◌++◌, length, get_or, take, drop, sym, refl, ap, ◌∙◌, ⊎_elim, div-one, add-zero, add_assoc, arith}
+use Rattle.std.specs.Int.{w64, from_le_bytes}
 use native.Mathlib.Nat.{div-div-eq-div-mul, sub_self}
 use borrow.Rule.Slice.PartMut.{put_mid}
 use Rattle.std.proofs.lemmas.List.Edits.{paste_all}
@@ -67,6 +68,38 @@ bytes_from_same bs cs at (suc count) same =
 pub word_same : (bs cs : List ℕ) (at : ℕ) → ((k : ℕ) → at ≤ k → k < at + 8 → get_or bs k 0 ≡ get_or cs k 0) → word_at bs at ≡ word_at cs at
 unfolding word_at
 word_same bs cs at same = ap little (bytes_from_same bs cs at 8 same)
+
+byte_of_eight : (bytes : List ℕ) (at i : ℕ) → i < 8 → get_or (take 8 (drop at bytes)) i 0 ≡ get_or bytes (at + i) 0
+byte_of_eight bytes at i h = get_or-take 8 (drop at bytes) i 0 h ∙ get_or-drop at bytes i 0
+
+-- eight bytes as an array are the doubleword that begins with them
+pub word_of_eight : (bytes : List ℕ) (at : ℕ) → from_le_bytes w64 (take 8 (drop at bytes)) ≡ word_at bytes at
+unfolding word_at
+word_of_eight bytes at =
+    let xs : List ℕ = take 8 (drop at bytes) in
+    let a : get_or xs 0 0 ≡ get_or bytes at 0 = byte_of_eight bytes at 0 (omega arith) ∙ ap (λ (i : ℕ). get_or bytes i 0) (add-zero at) in
+    let b = byte_of_eight bytes at 1 (omega arith) in
+    let c = byte_of_eight bytes at 2 (omega arith) in
+    let d = byte_of_eight bytes at 3 (omega arith) in
+    let e = byte_of_eight bytes at 4 (omega arith) in
+    let f = byte_of_eight bytes at 5 (omega arith) in
+    let g = byte_of_eight bytes at 6 (omega arith) in
+    let h = byte_of_eight bytes at 7 (omega arith) in
+    simp add_assoc (omega arith)
+
+bytes_from_part : (bytes : List ℕ) (start count at n : ℕ) → at + n ≤ count → bytes_from (take count (drop start bytes)) at n ≡ bytes_from bytes (start + at) n
+bytes_from_part bytes start count at zero h = refl
+bytes_from_part bytes start count at (suc n) h =
+    let b : get_or (take count (drop start bytes)) at 0 ≡ get_or bytes (start + at) 0 =
+    get_or-take count (drop start bytes) at 0 (omega arith) ∙ get_or-drop start bytes at 0 in
+    let t : bytes_from (take count (drop start bytes)) (at + 1) n ≡ bytes_from bytes (start + at + 1) n =
+    bytes_from_part bytes start count (at + 1) n (omega arith) ∙ ap (λ (i : ℕ). bytes_from bytes i n) (sym (add_assoc start at 1)) in
+    cc
+
+-- a doubleword of a part of the bytes
+pub word_of_part : (bytes : List ℕ) (start count at : ℕ) → at + 8 ≤ count → word_at (take count (drop start bytes)) at ≡ word_at bytes (start + at)
+unfolding word_at
+word_of_part bytes start count at h = ap little (bytes_from_part bytes start count at 8 h)
 
 -- the bytes of a doubleword stand for it
 little_bytes_of : (v : ℕ) → v < 2 ^ 64 → little (bytes_of v) ≡ v

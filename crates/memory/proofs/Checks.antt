@@ -1,12 +1,16 @@
 -- Checks: what a write leaves sound, and when a look-over finds nothing.
-use Rattle.std.proofs.Common.{◌≡◌, ℕ, zero, suc, ◌+◌, ◌*◌, ◌/◌, ◌%◌, ◌^◌, ◌<◌, ◌≤◌, Bool, true, false, cond, ◌⊎◌, List, length, get_or, drop, set, Some, None, Ok, Err, Option, sym, refl, ap, ◌∙◌, inl, inr, ⊎_elim, zero-add, arith}
+use Rattle.std.proofs.Common.{◌≡◌, ℕ, zero, suc, ◌+◌, ◌-◌, ◌*◌, ◌/◌, ◌%◌, ◌^◌, ◌<◌, ◌≤◌, Bool, true, false, cond, ◌⊎◌, List, length, get_or, take, drop, set, not, add-zero, Some, None, Ok, Err, Option, sym, refl, ap, ◌∙◌, inl, inr, ⊎_elim, zero-add, length-take, arith}
 use Rattle.std.proofs.lemmas.List.FromFn.{length-map-range_with_len, get_or-map-range_with_len}
-use Rattle.std.proofs.lemmas.List.{ext_get_or, length-set, get_or-set_same, get_or-set_other}
+use Rattle.std.specs.Int.{w64, from_le_bytes}
+use Rattle.std.specs.List.{find, fold, range_with_len}
+use Rattle.std.specs.Simd.{first_chunks}
+use lib.Bits.{bit_xor}
+use Rattle.std.proofs.lemmas.List.{drop-drop, ext_get_or, length-set, length-drop, get_or-set_same, get_or-set_other}
 use Rattle.std.proofs.lemmas.Bool.{cases_eq, cases_lt, cases_Bool, eq-eqb, ne_eqb, eqb-true, cond-true, cond-false}
 use Rattle.memory.specs.declared.blocks.Damage.{Damage}
 use Rattle.memory.specs.declared.blocks.Damage.TheVariants.{NotWhole}
-use Rattle.memory.specs.Block.{word_at, bytes_of, put, byte_of, start_of, blocks_in, cells_of, check_up_to, check_for, sound, stored, lowest_wrong, empty, whole, verdict, look_over}
-use Rattle.memory.proofs.Bytes.{word_put, word_beside, length_put_word, drop_put_word}
+use Rattle.memory.specs.Block.{word_at, bytes_of, put, byte_of, start_of, blocks_in, cells_of, rotated, check_up_to, check_for, sound, stored, lowest_wrong, empty, whole, verdict, look_over}
+use Rattle.memory.proofs.Bytes.{word_put, word_of_eight, word_of_part, word_beside, length_put_word, drop_put_word}
 
 -- a check is a matter of its own block's doublewords
 check_same : (bs cs : List ℕ) (block place : ℕ) → ((p : ℕ) → p < place → word_at bs (byte_of block p) ≡ word_at cs (byte_of block p)) → check_up_to bs block place ≡ check_up_to cs block place
@@ -133,18 +137,48 @@ module _ (bytes : List ℕ) (n v : ℕ) (inside : n < blocks_in bytes * 63) wher
     sound_done a t =
         ⊎_elim (λ (e : a ≡ n / 63). rw e sound_new) (λ (e : a ≡ n / 63 → ⊥). sound_kept a e t) (cases_eq a (n / 63))
 
--- one more block is looked at: a wrong one is the lowest, and past a sound one the rest tell
-pub lowest_here : (bytes : List ℕ) (block count : ℕ) → 0 < count → (word_at bytes (byte_of block 63) ≡ check_for bytes block → ⊥) → lowest_wrong bytes block count ≡ Some block
-lowest_here bytes block zero h ne = absurd (omega arith)
-lowest_here bytes block (suc count) h ne =
-    cond-false (sound bytes block) _ _ (ne_eqb (word_at bytes (byte_of block 63)) (check_for bytes block) ne)
+-- the lowest wrong block is the first one found that is not sound
+pub lowest_found : (bytes : List ℕ) (block count : ℕ) → find (λ (b : ℕ). not (sound bytes b)) (range_with_len block count) ≡ lowest_wrong bytes block count
+lowest_found bytes block zero = refl
+lowest_found bytes block (suc count) = by (sound bytes block) (lowest_found bytes (block + 1) count)
+  where
+    by : (b : Bool) {found lowest : Option ℕ} → found ≡ lowest → cond (not b) (Some block) found ≡ cond b lowest (Some block)
+    by true e = e
+    by false e = refl
 
-pub lowest_on : (bytes : List ℕ) (block count rest : ℕ) → count ≡ rest + 1 → word_at bytes (byte_of block 63) ≡ check_for bytes block → lowest_wrong bytes block count ≡ lowest_wrong bytes (block + 1) rest
-lowest_on bytes block zero rest h e = absurd (omega arith)
-lowest_on bytes block (suc count) rest h e =
-    let q : count ≡ rest = omega arith in
-    cond-true (sound bytes block) _ _ (eq-eqb (word_at bytes (byte_of block 63)) (check_for bytes block) e)
-    ∙ ap (λ (k : ℕ). lowest_wrong bytes (block + 1) k) q
+-- a check taken on over one more doubleword, given as its bytes
+abbrev pub checked : ℕ → List ℕ → ℕ
+checked check word = bit_xor (rotated check) (from_le_bytes w64 word)
+
+check_onward : (bytes part : List ℕ) (block place count : ℕ) → ((p : ℕ) → p < place + count → word_at part (8 * p) ≡ word_at bytes (byte_of block p)) → fold checked (check_up_to bytes block place) (first_chunks 8 count (drop (8 * place) part)) ≡ check_up_to bytes block (place + count)
+unfolding check_up_to
+check_onward bytes part block place zero same = sym (ap (check_up_to bytes block) (add-zero place))
+check_onward bytes part block place (suc count) same =
+    let w : from_le_bytes w64 (take 8 (drop (8 * place) part)) ≡ word_at bytes (byte_of block place) =
+    word_of_eight part (8 * place) ∙ same place (omega arith) in
+    let e : 8 * place + 8 ≡ 8 * suc place = omega arith in
+    let d : drop 8 (drop (8 * place) part) ≡ drop (8 * suc place) part =
+    drop-drop 8 (8 * place) part ∙ ap (λ (k : ℕ). drop k part) e in
+    let n : suc place + count ≡ place + suc count = omega arith in
+    ap (λ (word : ℕ). fold checked (bit_xor (rotated (check_up_to bytes block place)) word) (first_chunks 8 count (drop 8 (drop (8 * place) part)))) w
+    ∙ ap (λ (rest : List ℕ). fold checked (check_up_to bytes block (suc place)) (first_chunks 8 count rest)) d
+    ∙ check_onward bytes part block (suc place) count (λ p l. same p (omega arith))
+    ∙ ap (check_up_to bytes block) n
+
+-- the check taken over the bytes from a block's first place to its check
+pub check_over : (bytes : List ℕ) (block start end : ℕ) → 512 * block + 512 ≤ length bytes → start ≡ byte_of block 0 → end ≡ byte_of block 63 → fold checked (block + 1) (first_chunks 8 (length (take (end - start) (drop start bytes)) / 8) (take (end - start) (drop start bytes))) ≡ check_for bytes block
+unfolding check_up_to
+check_over bytes block start end fits s e =
+    let part : List ℕ = take (end - start) (drop start bytes) in
+    let t = length-take (end - start) (drop start bytes) in
+    let d = length-drop start bytes in
+    let n : 0 + length part / 8 ≡ 63 = omega arith in
+    check_onward bytes part block 0 (length part / 8)
+    (λ p l. word_of_part bytes start (end - start) (8 * p) (omega arith) ∙ by_place p)
+    ∙ ap (check_up_to bytes block) n
+  where
+    by_place : (p : ℕ) → word_at bytes (start + 8 * p) ≡ word_at bytes (byte_of block p)
+    by_place p = let k : start + 8 * p ≡ byte_of block p = omega arith in ap (word_at bytes) k
 
 -- what a look-over answers of whole blocks
 pub looked_over : (bytes : List ℕ) → (length bytes ≡ 0 → ⊥) → length bytes % 512 ≡ 0 → look_over bytes ≡ verdict (lowest_wrong bytes 0 (blocks_in bytes))

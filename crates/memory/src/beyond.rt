@@ -1,6 +1,6 @@
 // What a memory is: its trait, and the one refusal that every memory has.
-ghost use Rattle.std.specs.Prelude.{◌≡◌, ℕ, List};
-ghost use Rattle.memory.specs.Cells.{size_of, read_of, write_of, after};
+ghost use Rattle.std.specs.Prelude.{◌≡◌, ℕ, ◌<◌, ◌≤◌, List, MatchResult};
+ghost use Rattle.memory.specs.Cells.{beyond, size_of, read_of, write_of, after};
 
 use std::error::Error;
 use std::fmt;
@@ -28,6 +28,17 @@ impl fmt::Display for Beyond {
 }
 
 impl Error for Beyond {}
+
+/// Refuses a place that is not below the size.
+pub(crate) fn inside(place: u64, size: u64) -> Result<(), Beyond>
+    ensures { MatchResult result (λ _. place < size) (λ b. (b ≡ beyond place) × (size ≤ place)) }
+{
+    if place < size {
+        Ok(())
+    } else {
+        Err(Beyond { place })
+    }
+}
 
 /// A memory means a list of doublewords, `cells`.
 pub trait Memory {

@@ -1,18 +1,17 @@
 // A memory over lent bytes in blocks of 512: 63 doublewords and a check, little-endian.
-ghost use Rattle.std.specs.Prelude.{◌≡◌, ℕ, ◌+◌, ◌*◌, ◌/◌, ◌%◌, ◌<◌, ◌≤◌, true, length, drop, Ok};
+ghost use Rattle.std.specs.Prelude.{◌≡◌, ℕ, ◌+◌, ◌*◌, ◌/◌, ◌%◌, ◌^◌, ◌<◌, ◌≤◌, true, length, drop, Ok};
 ghost use Rattle.memory.specs.Cells.{write_of, after};
-ghost use Rattle.memory.specs.Block.{word_at, bytes_of, put, check_for, located, cells_of, blocks_in, written, look_over, damage_number, stored, sound};
+ghost use Rattle.memory.specs.Block.{word_at, bytes_of, put, check_for, byte_of, located, cells_of, blocks_in, written, look_over, damage_number, stored, sound};
 
+use crate::beyond::inside;
 use crate::{Beyond, Memory};
 use std::error::Error;
 use std::fmt;
 
 /// Bytes of a block.
 const BLOCK: usize = 512;
-/// Doublewords of a block, its check not counted.
+/// Doublewords of a block, its check not counted; the check stands at this place.
 const PLACES: u64 = 63;
-/// Where in its block the check stands.
-const CHECK: usize = 504;
 
 /// What the look-over found.
 #[derive(Clone, Copy, PartialEq, Eq, Debug)]
@@ -54,21 +53,20 @@ fn locate(n: u64) -> (u64, u64)
     (n / PLACES, n % PLACES)
 }
 
+/// The byte where a place of a block begins.
+fn byte_of(block: u64, place: u64) -> usize
+    requires { byte_of block place < 2 ^ 64 }
+    ensures { result ≡ byte_of block place }
+{
+    block as usize * BLOCK + place as usize * 8
+}
+
 /// The doubleword that begins at byte `at`.
 fn word(bytes: &[u8], at: usize) -> u64
     requires { at + 8 ≤ length bytes.now }
     ensures { result ≡ word_at bytes.now at }
 {
-    u64::from_le_bytes([
-        bytes[at],
-        bytes[at + 1],
-        bytes[at + 2],
-        bytes[at + 3],
-        bytes[at + 4],
-        bytes[at + 5],
-        bytes[at + 6],
-        bytes[at + 7],
-    ])
+    u64::from_le_bytes(bytes[at..at + 8].try_into().unwrap())
 }
 
 /// Writes `value` at the eight bytes from `at` on.
@@ -80,16 +78,24 @@ fn put_word(bytes: &mut [u8], at: usize, value: u64)
 }
 
 /// The check that a block's 63 doublewords ask for.
-fn check_of(bytes: &[u8], block: usize) -> u64
+fn check_of(bytes: &[u8], block: u64) -> u64
     requires { 512 * block + 512 ≤ length bytes.now }
     ensures { result ≡ check_for bytes.now block }
 {
-    let start = block * BLOCK;
-    let mut check = block as u64 + 1;
-    for place in 0..63 {
-        check = check.rotate_left(5) ^ word(bytes, start + place * 8);
-    }
-    check
+    let places = &bytes[byte_of(block, 0)..byte_of(block, PLACES)];
+    let (words, _) = places.as_chunks::<8>();
+    words.iter().fold(
+        block + 1,
+        |check, word| check.rotate_left(5) ^ u64::from_le_bytes(*word),
+    )
+}
+
+/// Whether the check that stands in a block is the one that its doublewords ask for.
+fn is_sound(bytes: &[u8], block: u64) -> bool
+    requires { 512 * block + 512 ≤ length bytes.now }
+    ensures { result ≡ sound bytes.now block }
+{
+    word(bytes, byte_of(block, PLACES)) == check_of(bytes, block)
 }
 
 /// Writes doubleword `n` and renews its block's check.
@@ -99,10 +105,9 @@ fn store(bytes: &mut [u8], n: u64, value: u64)
     ensures sound { (a : ℕ) → sound bytes.old a ≡ true → sound bytes.new a ≡ true }
 {
     let (block, place) = locate(n);
-    let start = block as usize * BLOCK;
-    put_word(bytes, start + place as usize * 8, value);
-    let check = check_of(bytes, block as usize);
-    put_word(bytes, start + CHECK, check);
+    put_word(bytes, byte_of(block, place), value);
+    let check = check_of(bytes, block);
+    put_word(bytes, byte_of(block, PLACES), check);
 }
 
 /// The first thing that is wrong with the bytes.
@@ -113,14 +118,10 @@ fn first_damage(bytes: &[u8]) -> Result<(), Damage>
     if len == 0 || len % BLOCK != 0 {
         return Err(Damage::NotWhole { bytes: len as u64 });
     }
-    for block in 0..len / BLOCK {
-        if word(bytes, block * BLOCK + CHECK) != check_of(bytes, block) {
-            return Err(Damage::WrongCheck {
-                block: block as u64,
-            });
-        }
+    match (0..(len / BLOCK) as u64).find(|block| !is_sound(bytes, *block)) {
+        Some(block) => Err(Damage::WrongCheck { block }),
+        None => Ok(()),
     }
-    Ok(())
 }
 
 #[derive(Drop)]
@@ -152,11 +153,9 @@ impl<'a> Memory for Blocks<'a> {
     }
 
     fn read(&self, n: u64) -> Result<u64, Beyond> {
-        if n >= self.size() {
-            return Err(Beyond { place: n });
-        }
+        inside(n, self.size())?;
         let (block, place) = locate(n);
-        Ok(word(self.bytes, block as usize * BLOCK + place as usize * 8))
+        Ok(word(self.bytes, byte_of(block, place)))
     }
 
     fn write(&mut self, n: u64, value: u64) -> Result<(), Beyond>
@@ -167,9 +166,7 @@ impl<'a> Memory for Blocks<'a> {
         ensures clean { look_over self.old.bytes.now ≡ Ok tt → look_over self.new.bytes.now ≡ Ok tt }
         ensures lender { self.new.bytes.ghost_name ≡ self.old.bytes.ghost_name }
     {
-        if n >= self.size() {
-            return Err(Beyond { place: n });
-        }
+        inside(n, self.size())?;
         store(self.bytes, n, value);
         Ok(())
     }

@@ -3,6 +3,7 @@ ghost use Rattle.std.specs.Prelude.{◌≡◌};
 ghost use Rattle.memory.specs.Cells.{write_of, after};
 ghost use Rattle.memory.specs.Interleave.{woven, first_after, second_after};
 
+use crate::beyond::inside;
 use crate::{Beyond, Memory};
 
 /// The largest part of a side that counts, so that the size of both fits 64 bits.
@@ -40,9 +41,7 @@ impl<A: Memory, B: Memory> Memory for Interleaved<A, B> {
     }
 
     fn read(&self, n: u64) -> Result<u64, Beyond> {
-        if n >= self.size() {
-            return Err(Beyond { place: n });
-        }
+        inside(n, self.size())?;
         if n % 2 == 0 {
             self.first.read(n / 2)
         } else {
@@ -56,9 +55,7 @@ impl<A: Memory, B: Memory> Memory for Interleaved<A, B> {
         ensures first { A.Memory.cells self.new.first ≡ first_after (A.Memory.cells self.old.first) (B.Memory.cells self.old.second) n value }
         ensures second { B.Memory.cells self.new.second ≡ second_after (A.Memory.cells self.old.first) (B.Memory.cells self.old.second) n value }
     {
-        if n >= self.size() {
-            return Err(Beyond { place: n });
-        }
+        inside(n, self.size())?;
         if n % 2 == 0 {
             self.first.write(n / 2, value)
         } else {

@@ -2,6 +2,7 @@
 ghost use Rattle.memory.specs.Cells.{write_of, after};
 ghost use Rattle.std.specs.Prelude.{◌≡◌};
 
+use crate::beyond::inside;
 use crate::{Beyond, Memory};
 
 #[derive(Drop)]
@@ -26,10 +27,10 @@ impl<'a> Memory for Words<'a> {
     }
 
     fn read(&self, n: u64) -> Result<u64, Beyond> {
-        if n >= self.words.len() as u64 {
-            return Err(Beyond { place: n });
-        }
-        Ok(self.words[n as usize])
+        self.words
+            .get(n as usize)
+            .copied()
+            .ok_or(Beyond { place: n })
     }
 
     fn write(&mut self, n: u64, value: u64) -> Result<(), Beyond>
@@ -37,9 +38,8 @@ impl<'a> Memory for Words<'a> {
         ensures list { self.new.words.now ≡ after self.old.words.now n value }
         ensures lender { self.new.words.ghost_name ≡ self.old.words.ghost_name }
     {
-        if n >= self.words.len() as u64 {
-            return Err(Beyond { place: n });
-        }
+        // No `get_mut`: of a slice it leaves nothing known of the other words.
+        inside(n, self.size())?;
         self.words[n as usize] = value;
         Ok(())
     }

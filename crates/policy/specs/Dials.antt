@@ -1,5 +1,5 @@
 -- Dials: a sweep ends at a way that is not the one touched last, and at the first that is free where one is.
-use Rattle.std.specs.Prelude.{◌≡◌, ℕ, zero, suc, ◌+◌, ◌-◌, ◌%◌, ◌<◌, ◌≤◌, Bool, true, false, ◌⊎◌, List, length, get_or, Some, None, Option, ◌==◌, ◌≢◌, nat_eq, slice_index_or, slice_set, refl}
+use Rattle.std.specs.Prelude.{◌≡◌, ℕ, zero, suc, ◌+◌, ◌-◌, ◌%◌, ◌<◌, ◌≤◌, Bool, true, false, ◌⊎◌, List, length, Some, None, Option, ◌==◌, ◌≢◌, nat_eq, slice_index_or, slice_set, refl}
 use Rattle.std.proofs.Common.{sym, ap, subst, ◌∙◌, inl, inr, ⊎_elim, arith}
 use Rattle.std.proofs.lemmas.List.{get_or-set_same, get_or-set_other, get_or_past, length-set}
 use Rattle.std.proofs.lemmas.Bool.{cases_lt, cases_Bool, cases_eq, eq-eqb, eqb-true, cond-true, cond-false}
@@ -30,9 +30,9 @@ swept_within (suc looks) marks hand last h =
     subst (λ (s : Swept). s.way < 16) (sym (look_last looks marks hand last e)) (swept_within looks marks (beyond hand) last (omega arith)))
     (λ (e : is_last last hand ≡ false).
     ⊎_elim
-    (λ (m : get_or marks hand false ≡ true).
+    (λ (m : slice_index_or marks hand false ≡ true).
     subst (λ (s : Swept). s.way < 16) (sym (look_marked looks marks hand last e m)) (swept_within looks (slice_set marks hand false) (beyond hand) last (omega arith)))
-    (λ (m : get_or marks hand false ≡ false).
+    (λ (m : slice_index_or marks hand false ≡ false).
     subst (λ (s : Swept). s.way < 16) (sym (look_free looks marks hand last e m)) h) (cases_Bool (slice_index_or marks hand false))) (cases_Bool (is_last last hand))
 
 -- a sweep that has a free way d beyond its hand ends at the first free one
@@ -40,7 +40,7 @@ pub record Ends (looks : ℕ) (marks : List Bool) (hand : ℕ) (last : Option �
   pub far : ℕ
   pub near : far ≤ d
   pub there : (sweep looks marks hand last).way ≡ (hand + far) % 16
-  pub unmarked : get_or marks ((hand + far) % 16) false ≡ false
+  pub unmarked : slice_index_or marks ((hand + far) % 16) false ≡ false
   pub apart : is_last last ((hand + far) % 16) ≡ false
   pub passed : (i : ℕ) → i < far → (slice_index_or marks ((hand + i) % 16) false ≡ true) ⊎ (is_last last ((hand + i) % 16) ≡ true)
 
@@ -67,7 +67,7 @@ ends_on looks marks marks' hand last d h small step others busy r =
       far = r.far + 1;
       near = omega arith;
       there = ap (λ (s : Swept). s.way) step ∙ r.there ∙ e;
-      unmarked = sym (others ((hand + (r.far + 1)) % 16) ne) ∙ ap (λ (k : ℕ). get_or marks' k false) (sym e) ∙ r.unmarked;
+      unmarked = sym (others ((hand + (r.far + 1)) % 16) ne) ∙ ap (λ (k : ℕ). slice_index_or marks' k false) (sym e) ∙ r.unmarked;
       apart = ap (is_last last) (sym e) ∙ r.apart;
       passed = λ i l. by_place i l (cases_eq i 0);
     }
@@ -75,7 +75,7 @@ ends_on looks marks marks' hand last d h small step others busy r =
     by_place : (i : ℕ) → i < r.far + 1 → (i ≡ 0) ⊎ (i ≢ 0) → (slice_index_or marks ((hand + i) % 16) false ≡ true) ⊎ (is_last last ((hand + i) % 16) ≡ true)
     by_place i l (inl z) =
         let q : hand ≡ (hand + i) % 16 = omega arith in
-        ⊎_elim (λ (m : get_or marks hand false ≡ true). inl (ap (λ (k : ℕ). get_or marks k false) (sym q) ∙ m))
+        ⊎_elim (λ (m : slice_index_or marks hand false ≡ true). inl (ap (λ (k : ℕ). slice_index_or marks k false) (sym q) ∙ m))
         (λ (e : is_last last hand ≡ true). inr (ap (is_last last) (sym q) ∙ e)) busy
     by_place i l (inr z) =
         let j : i - 1 + 1 ≡ i = omega arith in
@@ -83,8 +83,8 @@ ends_on looks marks marks' hand last d h small step others busy r =
         let q : (beyond hand + (i - 1)) % 16 ≡ (hand + i) % 16 = omega arith in
         let ne : (hand + i) % 16 ≡ hand → ⊥ = λ t. omega arith in
         ⊎_elim
-        (λ (m : get_or marks' ((beyond hand + (i - 1)) % 16) false ≡ true).
-        inl (sym (others ((hand + i) % 16) ne) ∙ ap (λ (k : ℕ). get_or marks' k false) (sym q) ∙ m))
+        (λ (m : slice_index_or marks' ((beyond hand + (i - 1)) % 16) false ≡ true).
+        inl (sym (others ((hand + i) % 16) ne) ∙ ap (λ (k : ℕ). slice_index_or marks' k false) (sym q) ∙ m))
         (λ (e : is_last last ((beyond hand + (i - 1)) % 16) ≡ true). inr (ap (is_last last) (sym q) ∙ e))
         (r.passed (i - 1) (omega arith))
 
@@ -92,7 +92,7 @@ pub ends_from : (looks : ℕ) (marks : List Bool) (hand : ℕ) (last : Option �
 ends_from zero marks hand last d h l u m e = absurd (omega arith)
 ends_from (suc looks) marks hand last zero h l u m e =
     let z : (hand + 0) % 16 ≡ hand = omega arith in
-    ends_here looks marks hand last 0 h (ap (is_last last) (sym z) ∙ e) (ap (λ (k : ℕ). get_or marks k false) (sym z) ∙ m)
+    ends_here looks marks hand last 0 h (ap (is_last last) (sym z) ∙ e) (ap (λ (k : ℕ). slice_index_or marks k false) (sym z) ∙ m)
 ends_from (suc looks) marks hand last (suc d) h l u m e =
     let q : (hand + suc d) % 16 ≡ (beyond hand + d) % 16 = omega arith in
     let ne : (hand + suc d) % 16 ≡ hand → ⊥ = λ t. omega arith in
@@ -102,13 +102,13 @@ ends_from (suc looks) marks hand last (suc d) h l u m e =
     (⊎_elim
     (λ (t : is_last last hand ≡ true).
     ends_on looks marks marks hand last d h (omega arith) (look_last looks marks hand last t) (λ k n. refl) (inr t)
-    (ends_from looks marks (beyond hand) last d b (omega arith) (omega arith) (ap (λ (k : ℕ). get_or marks k false) (sym q) ∙ m) (ap (is_last last) (sym q) ∙ e)))
+    (ends_from looks marks (beyond hand) last d b (omega arith) (omega arith) (ap (λ (k : ℕ). slice_index_or marks k false) (sym q) ∙ m) (ap (is_last last) (sym q) ∙ e)))
     (λ (t : is_last last hand ≡ false).
     ⊎_elim
-    (λ (c : get_or marks hand false ≡ true).
+    (λ (c : slice_index_or marks hand false ≡ true).
     ends_on looks marks (slice_set marks hand false) hand last d h (omega arith) (look_marked looks marks hand last t c) (λ k n. get_or-set_other marks hand k false false n) (inl c)
-    (ends_from looks (slice_set marks hand false) (beyond hand) last d b (omega arith) (omega arith) (ap (λ (k : ℕ). get_or (slice_set marks hand false) k false) (sym q) ∙ get_or-set_other marks hand ((hand + suc d) % 16) false false ne ∙ m) (ap (is_last last) (sym q) ∙ e)))
-    (λ (c : get_or marks hand false ≡ false). ends_here looks marks hand last (d + 1) h t c) (cases_Bool (slice_index_or marks hand false))) (cases_Bool (is_last last hand)))
+    (ends_from looks (slice_set marks hand false) (beyond hand) last d b (omega arith) (omega arith) (ap (λ (k : ℕ). slice_index_or (slice_set marks hand false) k false) (sym q) ∙ get_or-set_other marks hand ((hand + suc d) % 16) false false ne ∙ m) (ap (is_last last) (sym q) ∙ e)))
+    (λ (c : slice_index_or marks hand false ≡ false). ends_here looks marks hand last (d + 1) h t c) (cases_Bool (slice_index_or marks hand false))) (cases_Bool (is_last last hand)))
 
 -- a way that a sweep has unmarked is free
 cleared : (marks : List Bool) (hand : ℕ) → slice_index_or (slice_set marks hand false) hand false ≡ false
@@ -120,11 +120,11 @@ cleared marks hand =
 apart_from : (looks : ℕ) (marks : List Bool) (hand : ℕ) (last : Option ℕ) → 16 ≤ looks → hand < 16 → is_last last hand ≡ false → is_last last (sweep (suc looks) marks hand last).way ≡ false
 apart_from looks marks hand last l h e =
     ⊎_elim
-    (λ (m : get_or marks hand false ≡ true).
+    (λ (m : slice_index_or marks hand false ≡ true).
     let q : (beyond hand + 15) % 16 ≡ hand = omega arith in
-    let r = ends_from looks (slice_set marks hand false) (beyond hand) last 15 (omega arith) (omega arith) (omega arith) (ap (λ (k : ℕ). get_or (slice_set marks hand false) k false) q ∙ cleared marks hand) (ap (is_last last) q ∙ e) in
+    let r = ends_from looks (slice_set marks hand false) (beyond hand) last 15 (omega arith) (omega arith) (omega arith) (ap (λ (k : ℕ). slice_index_or (slice_set marks hand false) k false) q ∙ cleared marks hand) (ap (is_last last) q ∙ e) in
     ap (λ (s : Swept). is_last last s.way) (look_marked looks marks hand last e m) ∙ ap (is_last last) r.there ∙ r.apart)
-    (λ (m : get_or marks hand false ≡ false).
+    (λ (m : slice_index_or marks hand false ≡ false).
     ap (λ (s : Swept). is_last last s.way) (look_free looks marks hand last e m) ∙ e) (cases_Bool (slice_index_or marks hand false))
 
 one_last : (last : Option ℕ) (a b : ℕ) → is_last last a ≡ true → (a ≢ b) → is_last last b ≡ false
@@ -163,13 +163,13 @@ pub clock_picks_unmarked : ClockPicksUnmarked
 unfolding swept
 clock_picks_unmarked marks hand last free h f m e =
     let q : (hand + (free + 16 - hand) % 16) % 16 ≡ free = omega arith in
-    let r = ends_from 18 marks hand last ((free + 16 - hand) % 16) h (omega arith) (omega arith) (ap (λ (k : ℕ). get_or marks k false) q ∙ m) (ap (is_last last) q ∙ e) in
+    let r = ends_from 18 marks hand last ((free + 16 - hand) % 16) h (omega arith) (omega arith) (ap (λ (k : ℕ). slice_index_or marks k false) q ∙ m) (ap (is_last last) q ∙ e) in
     let n = r.near in
     record {
       passes = r.far;
       once = omega arith;
       there = r.there;
-      unmarked = ap (λ (k : ℕ). get_or marks k false) r.there ∙ r.unmarked;
+      unmarked = ap (λ (k : ℕ). slice_index_or marks k false) r.there ∙ r.unmarked;
       apart = ap (is_last last) r.there ∙ r.apart;
       passed = r.passed;
     }

@@ -1,5 +1,5 @@
 -- Trees: the bits lead to a way, and after a touch not to the way touched.
-use Rattle.std.specs.Prelude.{◌≡◌, ℕ, zero, suc, ◌^◌, ◌+◌, ◌*◌, ◌/◌, ◌%◌, ◌<◌, ◌≤◌, Bool, true, false, cond, List, [], ◌∷◌, ◌++◌, length, get_or, replicate, ◌==◌, ◌≢◌, slice_index_or, slice_set, refl}
+use Rattle.std.specs.Prelude.{◌≡◌, ℕ, zero, suc, ◌^◌, ◌+◌, ◌*◌, ◌/◌, ◌%◌, ◌<◌, ◌≤◌, Bool, true, false, cond, List, [], ◌∷◌, ◌++◌, length, replicate, ◌==◌, ◌≢◌, slice_index_or, slice_set, refl}
 use Rattle.std.proofs.Common.{sym, ◌∙◌, ⊎_elim, div-one, pow-suc, mul_comm}
 use Rattle.std.proofs.Math.Nat.{pow-le-pow_right}
 use Rattle.std.proofs.Math.Path.{ap}
@@ -42,14 +42,14 @@ module _ (nodes : List Bool) where
   unfolding followed down
   followed_within = let b = down_between nodes 1 4 in omega arith
 
-  high_half : get_or nodes 1 false ≡ true → 8 ≤ followed nodes
+  high_half : slice_index_or nodes 1 false ≡ true → 8 ≤ followed nodes
   unfolding followed down
   high_half e =
       let a : child_of nodes 1 ≡ 3 = ap (λ (t : Bool). cond t 3 2) e in
       let b = down_between nodes (child_of nodes 1) 3 in
       omega arith
 
-  low_half : get_or nodes 1 false ≡ false → followed nodes < 8
+  low_half : slice_index_or nodes 1 false ≡ false → followed nodes < 8
   unfolding followed down
   low_half e =
       let a : child_of nodes 1 ≡ 2 = ap (λ (t : Bool). cond t 3 2) e in
@@ -67,7 +67,7 @@ root_turned nodes way h l =
     let rest = turned (turned (turned nodes (16 + way)) ((16 + way) / 2)) ((16 + way) / 4) in
     let n : length rest ≡ 16 = simp length-set l in
     let i : (16 + way) / 8 / 2 ≡ 1 = omega arith in
-    ap (λ (k : ℕ). get_or (slice_set rest k ((16 + way) / 8 % 2 == 0)) 1 false) i
+    ap (λ (k : ℕ). slice_index_or (slice_set rest k ((16 + way) / 8 % 2 == 0)) 1 false) i
     ∙ get_or-set_same rest 1 ((16 + way) / 8 % 2 == 0) false (omega arith)
 
 pub touched_away : (nodes : List Bool) (way : ℕ) → way < 16 → length nodes ≡ 16 → followed (touched nodes way) ≢ way

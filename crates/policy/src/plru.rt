@@ -51,6 +51,7 @@ impl Tree {
     }
 }
 
+// Beside `Clock`, and no generic over what a hart keeps: the clauses name what becomes of marks, hands and nodes.
 #[derive(Clone, Copy)]
 pub struct TreePlru {
     trees: [Tree; 8],

@@ -1,4 +1,4 @@
-use Rattle.std.proofs.Common.{◌≡◌, ℕ, ◌+◌, ◌*◌, ◌/◌, ◌^◌, ◌<◌, true, List, sym, subst, arith}
+use Rattle.std.proofs.Common.{◌≡◌, ℕ, ◌/◌, ◌^◌, ◌<◌, true, List, sym, subst, arith}
 use Rattle.memory.specs.Block.{put, bytes_of, start_of, byte_of, check_for, stored, sound}
 use Rattle.memory.proofs.Checks.{mid, done, sound_done}
 use Rattle.memory.proofs.blocks.store.Goals as goal
@@ -9,8 +9,8 @@ returns c =
     let b : List ℕ = c.args.bytes.now in
     let n : ℕ = c.args.n in
     let v : ℕ = c.args.value in
-    let at : c.locate-block.result.0 * 512 + c.locate-block.result.1 * 8 ≡ start_of n = omega arith in
-    let last : c.locate-block.result.0 * 512 + 504 ≡ byte_of (n / 63) 63 = omega arith in
+    let at : c.byte_of.result ≡ start_of n = omega arith in
+    let last : c.byte_of-2.result ≡ byte_of (n / 63) 63 = omega arith in
     let m : c.put_word.new.bytes ≡ put b (start_of n) (bytes_of v) = cc in
     let k : c.check_of-check.result ≡ check_for (put b (start_of n) (bytes_of v)) (n / 63) = cc in
     let after : c.put_word-2.new.bytes ≡ stored b n v = cc in
