@@ -6,7 +6,6 @@ use Rattle.debts.specs.Debts as ledger
 use Rattle.frames.specs.declared.state.FrameState.TheVariants as state
 use Rattle.frames.specs.Frames.{Frames, freed}
 use Rattle.sv39.specs.Address.{canonical, page}
-use Rattle.tlb.specs.declared.page.Scope.{Scope}
 use Rattle.tlb.specs.Rows.{fenced, emptied}
 use Rattle.machine.specs.declared.hart.Hart.{Hart}
 use Rattle.machine.specs.declared.refusal.Refusal.{Refusal}
@@ -39,9 +38,6 @@ status_step s hart sum mxr =
 abbrev pub fence_page : Option ℕ → Option (Option ℕ)
 fence_page None = Some None
 fence_page (Some address) = cond (canonical address) (Some (Some (page address))) None
-
-abbrev pub scope_at : Option ℕ → Option ℕ → Scope
-scope_at space at = record { space = space; page = at }
 
 abbrev pub stands_in : List (Option ℕ) → Option ℕ → Bool
 stands_in roots None = true

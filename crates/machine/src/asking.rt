@@ -1,9 +1,8 @@
 // What a machine's calls ask of its plain part.
-ghost use Rattle.std.specs.Prelude.{◌≡◌, ◌<◌, ◌≤◌, MatchResult, None, slice_index_or};
-ghost use Rattle.std.specs.Option.{option_map};
+ghost use Rattle.std.specs.Prelude.{◌≡◌, ◌<◌, ◌≤◌, MatchResult, IfSome, IsNone, Some, None, slice_index_or};
 ghost use Rattle.machine.specs.declared.refusal.Refusal.TheVariants.{NoHart};
 ghost use Rattle.machine.specs.Accesses.{root_in};
-ghost use Rattle.machine.specs.Harts.{fence_page, scope_at, stands_in};
+ghost use Rattle.machine.specs.Harts.{fence_page, stands_in};
 ghost use Rattle.machine.specs.Pages.{located_by};
 
 use crate::hart::Core;
@@ -70,7 +69,8 @@ pub(crate) fn page_in(space: usize, page: u64) -> PageId
 
 /// What a fence is for; nothing where its address is not canonical.
 pub(crate) fn scope_of(space: Option<usize>, address: Option<u64>) -> Option<Scope>
-    ensures { result ≡ option_map (scope_at space) (fence_page address) }
+    ensures scope { IfSome result (λ scope. (scope.space ≡ space) × (fence_page address ≡ Some scope.page)) }
+    ensures none { IsNone result → fence_page address ≡ None }
 {
     let page = match address {
         None => None,

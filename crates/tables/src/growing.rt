@@ -7,7 +7,7 @@ ghost use Rattle.tables.specs.Growth.{grown, leaf_put};
 
 use crate::finding::table_below;
 use crate::words::{clear_frame, put_word};
-use frames::{FrameState, Pool};
+use frames::{Pool, Use};
 use memory::Memory;
 use sv39::{Entry, Level, Rights, entry_of};
 
@@ -44,13 +44,13 @@ pub fn grow<M: Memory>(
     ensures memory { M.Memory.cells memory.new ≡ (grown (M.Memory.cells memory.old) (frames_of pool.old) table address (number_of level)).cells }
     ensures pool { frames_of pool.new ≡ (grown (M.Memory.cells memory.old) (frames_of pool.old) table address (number_of level)).frames }
 {
-    if let Some(below) = table_below(memory, pool.limit as u16, table, address, level) {
+    if let Some(below) = table_below(memory, pool.limit, table, address, level) {
         return Grown {
             table: below,
             count: 0,
         };
     }
-    let Some(frame) = pool.take_number(FrameState::Table) else {
+    let Some(frame) = pool.take(Use::Table) else {
         return Grown { table, count: 0 };
     };
     clear_frame(memory, frame);
