@@ -1,8 +1,8 @@
 // Tree-PLRU: for each hart a tree of fifteen bits, which a touch turns away from its way and a pick follows.
-ghost use Rattle.std.specs.Prelude.{◌≡◌, ℕ, ◌<◌, true, false, length, replicate, is_err, Some, None};
+ghost use Rattle.std.specs.Prelude.{◌≡◌, ℕ, ◌<◌, true, false, replicate, is_err, Some, None};
 ghost use Rattle.policy.specs.Answers.{touch_of, pick_of, last_after};
 ghost use Rattle.policy.specs.Plru.{nodes_of, last_of, nodes_after, tree_of};
-ghost use Rattle.policy.specs.Tree.{child_of, followed, turned, touched};
+ghost use Rattle.policy.specs.Tree.{followed, touched};
 ghost use Rattle.policy.specs.Trees.{followed_within};
 
 use crate::tree::Tree;
@@ -39,6 +39,7 @@ impl Tree {
         self.last = Some(way);
     }
 
+    /// The way that the bits lead to from the root.
     fn follow(&self) -> usize
         ensures value { result ≡ followed self.now.nodes }
         ensures bound { result < 16 }
