@@ -1,7 +1,5 @@
-// Debts and refusals as makers read them.
+// Debts as makers read them.
 use crate::debt::Debt;
-use crate::settling::Unsettled;
-use std::error::Error;
 use std::fmt;
 use tlb::PageId;
 
@@ -35,14 +33,3 @@ impl fmt::Display for Debt {
         }
     }
 }
-
-impl fmt::Display for Unsettled {
-    fn fmt<W: fmt::Write>(&self, f: &mut fmt::Formatter<W>) -> fmt::Result {
-        match *self {
-            Unsettled::NotOpen => f.write_str("21: the debt is not open"),
-            Unsettled::Unmarked(hart) => write!(f, "22: hart {hart} has not fenced since"),
-        }
-    }
-}
-
-impl Error for Unsettled {}

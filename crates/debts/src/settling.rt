@@ -6,14 +6,17 @@ ghost use Rattle.debts.specs.Debts as value;
 
 use crate::debt::Debt;
 use crate::ledger::Ledger;
+use thiserror::Error;
 use tlb::{HartId, PageId, Scope, lowest_empty};
 
 /// Why a debt is not settled.
-#[derive(Clone, Copy, PartialEq, Eq, Debug)]
+#[derive(Clone, Copy, PartialEq, Eq, Debug, Error)]
 pub enum Unsettled {
     /// No open debt has this number.
+    #[error("21: the debt is not open")]
     NotOpen,
     /// This hart, the lowest such, has not fenced the page since the debt arose.
+    #[error("22: hart {0} has not fenced since")]
     Unmarked(usize),
 }
 

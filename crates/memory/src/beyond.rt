@@ -2,11 +2,11 @@
 ghost use Rattle.std.specs.Prelude.{◌≡◌, ℕ, ◌<◌, ◌≤◌, List, MatchResult};
 ghost use Rattle.memory.specs.Cells.{beyond, size_of, read_of, write_of, after};
 
-use std::error::Error;
-use std::fmt;
+use thiserror::Error;
 
 /// The refusal of a read or a write past the end, with the place that was asked for.
-#[derive(Clone, Copy, PartialEq, Eq, Debug)]
+#[derive(Clone, Copy, PartialEq, Eq, Debug, Error)]
+#[error("1: doubleword {place} is beyond the memory")]
 pub struct Beyond {
     pub place: u64,
 }
@@ -19,15 +19,6 @@ impl Beyond {
         1
     }
 }
-
-impl fmt::Display for Beyond {
-    fn fmt<W: fmt::Write>(&self, f: &mut fmt::Formatter<W>) -> fmt::Result {
-        let place = self.place;
-        write!(f, "1: doubleword {place} is beyond the memory")
-    }
-}
-
-impl Error for Beyond {}
 
 /// Refuses a place that is not below the size.
 pub(crate) fn inside(place: u64, size: u64) -> Result<(), Beyond>

@@ -5,8 +5,7 @@ ghost use Rattle.memory.specs.Block.{word_at, bytes_of, put, check_for, byte_of,
 
 use crate::beyond::inside;
 use crate::{Beyond, Memory};
-use std::error::Error;
-use std::fmt;
+use thiserror::Error;
 
 /// Bytes of a block.
 const BLOCK: usize = 512;
@@ -14,11 +13,13 @@ const BLOCK: usize = 512;
 const PLACES: u64 = 63;
 
 /// What the look-over found.
-#[derive(Clone, Copy, PartialEq, Eq, Debug)]
+#[derive(Clone, Copy, PartialEq, Eq, Debug, Error)]
 pub enum Damage {
     /// There are no bytes, or their count is no multiple of 512.
+    #[error("2: {bytes} bytes are no whole blocks of 512")]
     NotWhole { bytes: u64 },
     /// The check of this block, the lowest such, is wrong.
+    #[error("3: the check of block {block} is wrong")]
     WrongCheck { block: u64 },
 }
 
@@ -33,17 +34,6 @@ impl Damage {
         }
     }
 }
-
-impl fmt::Display for Damage {
-    fn fmt<W: fmt::Write>(&self, f: &mut fmt::Formatter<W>) -> fmt::Result {
-        match *self {
-            Damage::NotWhole { bytes } => write!(f, "2: {bytes} bytes are no whole blocks of 512"),
-            Damage::WrongCheck { block } => write!(f, "3: the check of block {block} is wrong"),
-        }
-    }
-}
-
-impl Error for Damage {}
 
 /// Doubleword `n` as its block and its place in that block.
 fn locate(n: u64) -> (u64, u64)
