@@ -1,4 +1,4 @@
-use Rattle.std.proofs.Common.{◌≡◌, ◌<◌, get_or, Some, None, sym, arith}
+use Rattle.std.proofs.Common.{◌≡◌, ◌<◌, get_or, Some, None, sym, ◌∙◌, arith}
 use Rattle.tlb.proofs.Scans.{found_within}
 use Rattle.tlb.proofs.Tries.{served_hit, tried_hit, served_miss, tried_miss}
 use Rattle.tlb.proofs.row.Row.try_way.Goals as goal
@@ -40,12 +40,6 @@ returns-then-serves c =
       within = (inside (goal.at.returns-then-serves c).In_ok-way, omega arith);
     }
 
-pub offset_bounds-self-way-2 : goal.offset_bounds-self-way-2
-offset_bounds-self-way-2 c = let h = inside (goal.at.offset_bounds-self-way-2 c).In_ok-way in omega arith
-
-pub bounds-self-way-2 : goal.bounds-self-way-2
-bounds-self-way-2 c = let h = inside (goal.at.bounds-self-way-2 c).In_ok-way in omega arith
-
 pub returns : goal.returns
 returns c =
     let r = c.args.self.now in
@@ -56,6 +50,6 @@ returns c =
     let e = sym c.if-serves.ensures in
     record {
       answer = sym (served_miss c.args.page.space c.args.page.page q r.ways c.in_ok-way.way way at held e);
-      ways = sym (tried_miss c.args.page.space c.args.page.page q r.ways c.in_ok-way.way way at held e);
+      ways = c.clear.ensures ∙ sym (tried_miss c.args.page.space c.args.page.page q r.ways c.in_ok-way.way way at held e);
       within = tt;
     }
