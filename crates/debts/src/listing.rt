@@ -39,9 +39,10 @@ impl fmt::Display for Debt {
 
 impl fmt::Display for Unsettled {
     fn fmt<W: fmt::Write>(&self, f: &mut fmt::Formatter<W>) -> fmt::Result {
+        let number = self.number();
         match *self {
-            Unsettled::NotOpen => f.write_str("21: the debt is not open"),
-            Unsettled::Unmarked(hart) => write!(f, "22: hart {hart} has not fenced since"),
+            Unsettled::NotOpen => write!(f, "{number}: the debt is not open"),
+            Unsettled::Unmarked(hart) => write!(f, "{number}: hart {hart} has not fenced since"),
         }
     }
 }
