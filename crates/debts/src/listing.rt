@@ -1,7 +1,6 @@
 // Debts as makers read them.
 use crate::debt::Debt;
 use std::fmt;
-use tlb::PageId;
 
 /// The harts marked on a debt, from the lowest.
 #[derive(Clone, Copy)]
@@ -12,10 +11,8 @@ impl fmt::Display for Marked {
         if self.0.marks == 0 {
             return f.write_str(" none");
         }
-        for hart in 0..8 {
-            if self.0.is_marked(hart) {
-                write!(f, " {hart}")?;
-            }
+        for hart in (0..8).filter(|hart| self.0.is_marked(*hart)) {
+            write!(f, " {hart}")?;
         }
         Ok(())
     }
@@ -23,11 +20,15 @@ impl fmt::Display for Marked {
 
 impl fmt::Display for Debt {
     fn fmt<W: fmt::Write>(&self, f: &mut fmt::Formatter<W>) -> fmt::Result {
-        let number = self.number;
-        let PageId { space, page } = self.of;
+        let Debt {
+            number,
+            of,
+            frame,
+            ..
+        } = *self;
         let marked = Marked(*self);
-        write!(f, "debt {number}: space {space}, page {page:#x}, ")?;
-        match self.frame {
+        write!(f, "debt {number}: {of}, ")?;
+        match frame {
             Some(frame) => write!(f, "frame {frame}, marked{marked}"),
             None => write!(f, "rights only, marked{marked}"),
         }

@@ -19,13 +19,15 @@ abbrev pub Unused : List FrameState → ℕ → Type 0
 Unused states mark = (f : ℕ) → mark ≤ f → get_or states f Free ≡ Free
 
 -- the facts of a pool, as its ghost fields have them
-pub record Sound (states : List FrameState) (frames : List ℕ) (height mark limit : ℕ) : Type 0 where
-  pub full : (length states ≡ 1024) × (length frames ≡ 1024)
-  pub bounds : (mark ≤ limit) × (limit ≤ 1024)
-  pub balance : height + busy states ≡ mark
-  pub piled : Piled states frames height mark
-  pub apart : Apart frames height
-  pub unused : Unused states mark
+abbrev pub Sound : List FrameState → List ℕ → ℕ → ℕ → ℕ → Type 0
+Sound states frames height mark limit = record {
+  full : (length states ≡ 1024) × (length frames ≡ 1024);
+  bounds : (mark ≤ limit) × (limit ≤ 1024);
+  balance : height + busy states ≡ mark;
+  piled : Piled states frames height mark;
+  apart : Apart frames height;
+  unused : Unused states mark;
+}
 
 pub sound : (p : Pool) → Sound p.states p.pile.frames p.pile.height p.mark p.limit
 sound p = record { full = p.full; bounds = p.bounds; balance = p.balance; piled = p.piled; apart = p.apart; unused = p.unused }

@@ -1,4 +1,3 @@
 pub mod Harts
 pub mod Scans
 pub mod Sparse
-pub mod Tries

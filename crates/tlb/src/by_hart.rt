@@ -1,4 +1,5 @@
-// A hart's row among those of all.
+// A hart's row among those of all. Where it changes, the rows are lent before it: the prover has no plan for an element
+// lent in one step where it and the struct that holds its array both have a ghost field.
 ghost use Rattle.std.specs.Prelude.{◌≡◌, ◌^◌, ◌<◌, replicate, IfSome, Some, None, slice_set};
 ghost use Rattle.tlb.specs.Harts.{rows_of, row_at};
 ghost use Rattle.tlb.specs.Rows.{fenced, emptied};

@@ -1,4 +1,4 @@
-// A row as makers read it.
+// Pages and rows as makers read them.
 use crate::page::PageId;
 use crate::row::Row;
 use crate::way::Way;
@@ -10,21 +10,29 @@ fn letter(held: bool, letter: char) -> char {
     if held { letter } else { '-' }
 }
 
+impl fmt::Display for PageId {
+    fn fmt<W: fmt::Write>(&self, f: &mut fmt::Formatter<W>) -> fmt::Result {
+        let PageId { space, page } = *self;
+        write!(f, "space {space}, page {page:#x}")
+    }
+}
+
 impl fmt::Display for Way {
     fn fmt<W: fmt::Write>(&self, f: &mut fmt::Formatter<W>) -> fmt::Result {
-        let Rights { r, w, x, u } = self.rights;
-        let PageId { space, page } = self.of;
-        let frame = self.frame;
+        let Way {
+            of,
+            frame,
+            rights: Rights { r, w, x, u },
+            a,
+            d,
+        } = *self;
         let r = letter(r, 'r');
         let w = letter(w, 'w');
         let x = letter(x, 'x');
         let u = letter(u, 'u');
-        let a = letter(self.a, 'a');
-        let d = letter(self.d, 'd');
-        write!(
-            f,
-            "space {space}, page {page:#x}, frame {frame}, {r}{w}{x}{u} {a} {d}"
-        )
+        let a = letter(a, 'a');
+        let d = letter(d, 'd');
+        write!(f, "{of}, frame {frame}, {r}{w}{x}{u} {a} {d}")
     }
 }
 

@@ -19,7 +19,7 @@ impl Row {
         if held.serves(access) {
             return Some((way, held.frame % (1 << 44)));
         }
-        self.ways[way] = None;
+        self.clear(way);
         None
     }
 }

@@ -9,5 +9,4 @@ pub invariant_of-self : goal.invariant_of-self
 invariant_of-self c =
     let p = c.args.self.now in
     let at : one (get_or p.states c.from.result Free) ≡ 1 = ap (λ (n : ℕ). one (get_or p.states n Free)) c.from.ensures ∙ c.requires in
-    let m = changed_sound p.states p.pile.frames p.pile.height p.mark p.limit (sound p) c.from.result c.into.result at (ap one c.into.ensures ∙ busy_use c.args.into) in
-    record { full = m.full; bounds = m.bounds; balance = m.balance; piled = m.piled; apart = m.apart; unused = m.unused }
+    changed_sound p.states p.pile.frames p.pile.height p.mark p.limit (sound p) c.from.result c.into.result at (ap one c.into.ensures ∙ busy_use c.args.into)

@@ -16,10 +16,9 @@ invariant_of-self c =
     let p = c.args.self.now in
     let f : ℕ = c.args.frame in
     let r = released_sound p.states p.pile.frames p.pile.height p.mark p.limit (sound p) f c.requires in
-    let m = subst (λ (k : ℕ). Sound (set p.states k Free) c.push.new.self.frames c.push.new.self.height p.mark p.limit) (sym c.from.ensures)
+    subst (λ (k : ℕ). Sound (set p.states k Free) c.push.new.self.frames c.push.new.self.height p.mark p.limit) (sym c.from.ensures)
     (subst (λ (xs : List ℕ). Sound (set p.states f Free) xs c.push.new.self.height p.mark p.limit) (sym c.push.ensures.frames)
-    (subst (λ (n : ℕ). Sound (set p.states f Free) (set p.pile.frames p.pile.height f) n p.mark p.limit) (sym c.push.ensures.height) r)) in
-    record { full = m.full; bounds = m.bounds; balance = m.balance; piled = m.piled; apart = m.apart; unused = m.unused }
+    (subst (λ (n : ℕ). Sound (set p.states f Free) (set p.pile.frames p.pile.height f) n p.mark p.limit) (sym c.push.ensures.height) r))
 
 pub returns : goal.returns
 returns c =

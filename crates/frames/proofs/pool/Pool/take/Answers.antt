@@ -12,9 +12,8 @@ invariant_of-self-2 c =
     let p = c.args.self.now in
     let rest = c.pop.new.self in
     let to = c.into.result in
-    let m = subst (λ (n : ℕ). Sound (set p.states n to) rest.frames rest.height p.mark p.limit) (sym c.from.ensures)
-    (top_sound p.states p.pile.frames p.pile.height p.mark p.limit to c.in-Some.frame rest.height rest.frames (sym c.in-Some.ensures.top) c.pop.ensures.height c.pop.ensures.frames (sound p) (ap one c.into.ensures ∙ busy_use c.args.to)) in
-    record { full = m.full; bounds = m.bounds; balance = m.balance; piled = m.piled; apart = m.apart; unused = m.unused }
+    subst (λ (n : ℕ). Sound (set p.states n to) rest.frames rest.height p.mark p.limit) (sym c.from.ensures)
+    (top_sound p.states p.pile.frames p.pile.height p.mark p.limit to c.in-Some.frame rest.height rest.frames (sym c.in-Some.ensures.top) c.pop.ensures.height c.pop.ensures.frames (sound p) (ap one c.into.ensures ∙ busy_use c.args.to))
 
 pub returns : goal.returns
 returns c =

@@ -20,9 +20,8 @@ pub invariant_of-self : goal.invariant_of-self
 invariant_of-self c =
     let p = c.args.self.now in
     let to = c.into.result in
-    let m = subst (λ (n : ℕ). Sound (set p.states n to) p.pile.frames p.pile.height (p.mark + 1) p.limit) (sym c.from.ensures)
-    (unused_sound p.states p.pile.frames p.pile.height p.mark p.limit (sound p) to c.if-self.false (ap one c.into.ensures ∙ busy_use c.args.to)) in
-    record { full = m.full; bounds = m.bounds; balance = m.balance; piled = m.piled; apart = m.apart; unused = m.unused }
+    subst (λ (n : ℕ). Sound (set p.states n to) p.pile.frames p.pile.height (p.mark + 1) p.limit) (sym c.from.ensures)
+    (unused_sound p.states p.pile.frames p.pile.height p.mark p.limit (sound p) to c.if-self.false (ap one c.into.ensures ∙ busy_use c.args.to))
 
 pub returns : goal.returns
 returns c =
