@@ -38,7 +38,7 @@ impl fmt::Display for Letters {
 }
 
 /// A number, or a word where there is none.
-fn show_or<W: fmt::Write, N: fmt::Display>(
+fn show_or<W: fmt::Write, N: fmt::Display + Drop>(
     f: &mut fmt::Formatter<W>,
     n: Option<N>,
     word: &str,
