@@ -35,7 +35,7 @@ impl<M: Memory, P: Policy> Model for Machine<M, P> {
 pub fn check<M: Memory>(memory: &M, harts: usize) -> Result<(), Refusal>
     ensures { result ≡ check_for (M.Memory.cells memory.now) harts }
 {
-    if harts < 1 || harts > 8 {
+    if !(1..=8).contains(&harts) {
         return Err(Refusal::HartCount);
     }
     if memory.size() < 2048 {
@@ -65,7 +65,7 @@ impl Core {
             debts: Ledger::new(),
             harts: [hart; 8],
             rows: Rows::empty(),
-            count: harts.max(1).min(8),
+            count: harts.clamp(1, 8),
         }
     }
 }

@@ -173,7 +173,11 @@ impl<M: Memory, P: Policy> Machine<M, P> {
         let (place, leaf) = self.allow_unmap(space, address)?;
         let frame = leaf.ppn;
         let page = page_in(space, address);
-        let debt = self.core.debts.open(page, Some(frame)).ok_or(Refusal::DebtsFull)?;
+        let debt = self
+            .core
+            .debts
+            .open(page, Some(frame))
+            .ok_or(Refusal::DebtsFull)?;
         put_word(&mut self.memory, place, 0);
         self.core.pool.turn(frame, Use::Mapped, Use::Owed);
         Ok(Unmapped { debt, frame })

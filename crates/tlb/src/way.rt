@@ -20,12 +20,7 @@ impl Way {
     pub fn new(of: PageId, frame: u64, flags: Flags) -> Way
         ensures { result ≡ way_of of.space of.page frame flags }
     {
-        let rights = Rights {
-            r: flags.r,
-            w: flags.w,
-            x: flags.x,
-            u: flags.u,
-        };
+        let rights = Rights::from(flags);
         Way {
             of,
             frame,
