@@ -10,7 +10,7 @@ use crate::rights::{is_due, is_valid};
 use frames::{FrameState, Use};
 use memory::Memory;
 use policy::Policy;
-use sv39::{Entry, Level, Rights};
+use sv39::{Entry, Frame, Level, Rights};
 use tables::{Leaf, Tables, clear_frame, grow, put_leaf, put_word};
 use tlb::lowest_empty;
 
@@ -64,12 +64,12 @@ impl<M: Memory, P: Policy> Machine<M, P> {
     fn tables(&self, root: u16) -> Tables<'_, M>
         ensures memory { M.Memory.cells result.memory.now ≡ self.now.state.cells }
         ensures limit { result.limit ≡ self.now.state.frames.limit }
-        ensures root { result.root ≡ root }
+        ensures root { result.root.number ≡ root }
     {
         Tables {
             memory: &self.memory,
-            limit: self.core.pool.limit,
-            root,
+            limit: usize::from(self.core.pool.limit),
+            root: Frame::from(root),
         }
     }
 
@@ -118,6 +118,7 @@ impl<M: Memory, P: Policy> Machine<M, P> {
     {
         let (root, held) = self.allow_map(space, address, frame, rights)?;
         let pool = &mut self.core.pool;
+        let root = Frame::from(root);
         let mid = grow(&mut self.memory, pool, root, address, Level::Two);
         let low = grow(&mut self.memory, pool, mid.table, address, Level::One);
         put_leaf(&mut self.memory, low.table, address, held, rights);

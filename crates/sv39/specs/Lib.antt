@@ -1,4 +1,5 @@
 pub mod Address
+pub mod Frames
 pub mod Layout
 pub mod Levels
 pub mod Making

@@ -1,7 +1,9 @@
 // Addresses: when one is canonical, its indexes, its entries and its page.
-ghost use Rattle.std.specs.Prelude.{◌≡◌, ◌^◌, ◌<◌, ◌≤◌, [], ◌∷◌};
+ghost use Rattle.std.specs.Prelude.{◌≡◌, ◌<◌, ◌≤◌, [], ◌∷◌};
 ghost use Rattle.sv39.specs.Address.{canonical, index, page, entry_of};
 ghost use Rattle.sv39.specs.Levels.{number_of};
+
+use crate::Frame;
 
 /// A level of the tables: a root is at level 2, and a page's own leaf at level 0.
 #[derive(Clone, Copy, PartialEq, Eq, Debug)]
@@ -37,13 +39,11 @@ pub fn index_at(address: u64, level: Level) -> u64
     (address >> (12 + 9 * level.number())) % 512
 }
 
-/// The doubleword number of an address's entry in the table of a frame. For the crates of this part alone: it asks that
-/// the frame's number is one.
-pub fn entry_of(table: u64, address: u64, level: Level) -> u64
-    requires { table < 2 ^ 44 }
-    ensures { result ≡ entry_of table address (number_of level) }
+/// The doubleword number of an address's entry in the table of a frame.
+pub fn entry_of(table: Frame, address: u64, level: Level) -> u64
+    ensures { result ≡ entry_of table.number address (number_of level) }
 {
-    512 * table + index_at(address, level)
+    512 * table.number + index_at(address, level)
 }
 
 /// The indexes of an address at levels 0, 1 and 2, in this order.

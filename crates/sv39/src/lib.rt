@@ -4,8 +4,10 @@
 mod access;
 mod address;
 mod entry;
+mod frame;
 mod packing;
 
 pub use access::{Access, Kind, Mode};
 pub use address::{Level, entry_of, index_at, indexes, is_canonical, page_of};
 pub use entry::{Entry, Flags, Rights, TooWide};
+pub use frame::Frame;

@@ -1,11 +1,13 @@
 // Following tables from a root to a page's leaf.
 ghost use Rattle.std.specs.Prelude.{◌≡◌};
+ghost use Rattle.std.specs.Option.{option_map};
+ghost use Rattle.sv39.specs.Frames.{number};
 ghost use Rattle.sv39.specs.Levels.{number_of};
 ghost use Rattle.tables.specs.Tables.{table_of, table_below_of, low_table_of, leaf_of, missing};
 
 use crate::words::word_at;
 use memory::Memory;
-use sv39::{Entry, Level, entry_of};
+use sv39::{Entry, Frame, Level, entry_of};
 
 /// A page's leaf and the doubleword number where it stands.
 pub type Leaf = (u64, Entry);
@@ -14,17 +16,17 @@ pub type Leaf = (u64, Entry);
 #[derive(Clone, Copy)]
 pub struct Tables<'a, M> {
     pub memory: &'a M,
-    pub limit: u16,
-    pub root: u16,
+    pub limit: usize,
+    pub root: Frame,
 }
 
 /// The table that an entry leads on to: one of the first `limit` frames.
-fn table_of(entry: Entry, limit: u16) -> Option<u16>
-    ensures { result ≡ table_of limit entry }
+fn table_of(entry: Entry, limit: usize) -> Option<Frame>
+    ensures { option_map number result ≡ table_of limit entry }
 {
     let flags = entry.flags;
-    if flags.v && !flags.r && !flags.w && !flags.x && entry.ppn < u64::from(limit) {
-        Some(entry.ppn as u16)
+    if flags.v && !flags.r && !flags.w && !flags.x && entry.ppn < limit as u64 {
+        Some(Frame { number: entry.ppn })
     } else {
         None
     }
@@ -33,21 +35,21 @@ fn table_of(entry: Entry, limit: u16) -> Option<u16>
 /// The table that an address's entry in a table leads on to.
 pub fn table_below<M: Memory>(
     memory: &M,
-    limit: u16,
-    table: u16,
+    limit: usize,
+    table: Frame,
     address: u64,
     level: Level,
-) -> Option<u16>
-    ensures { result ≡ table_below_of (M.Memory.cells memory.now) limit table address (number_of level) }
+) -> Option<Frame>
+    ensures { option_map number result ≡ table_below_of (M.Memory.cells memory.now) limit table.number address (number_of level) }
 {
-    let entry = entry_of(u64::from(table), address, level);
+    let entry = entry_of(table, address, level);
     table_of(Entry::unpack(word_at(memory, entry)), limit)
 }
 
 impl<'a, M: Memory> Tables<'a, M> {
     /// The table of level 0 for an address.
-    fn low_table(&self, address: u64) -> Option<u16>
-        ensures { result ≡ low_table_of (M.Memory.cells self.now.memory.now) self.now.limit self.now.root address }
+    fn low_table(&self, address: u64) -> Option<Frame>
+        ensures { option_map number result ≡ low_table_of (M.Memory.cells self.now.memory.now) self.now.limit self.now.root.number address }
     {
         let mid = table_below(self.memory, self.limit, self.root, address, Level::Two)?;
         table_below(self.memory, self.limit, mid, address, Level::One)
@@ -55,17 +57,17 @@ impl<'a, M: Memory> Tables<'a, M> {
 
     /// The leaf of an address's page, where the page is mapped.
     pub fn leaf(&self, address: u64) -> Option<Leaf>
-        ensures { result ≡ leaf_of (M.Memory.cells self.now.memory.now) self.now.limit self.now.root address }
+        ensures { result ≡ leaf_of (M.Memory.cells self.now.memory.now) self.now.limit self.now.root.number address }
     {
         let low = self.low_table(address)?;
-        let place = entry_of(u64::from(low), address, Level::Zero);
+        let place = entry_of(low, address, Level::Zero);
         let entry = Entry::unpack(word_at(self.memory, place));
         entry.flags.v.then_some((place, entry))
     }
 
     /// How many tables are missing on the way to an address's page.
     pub fn missing(&self, address: u64) -> usize
-        ensures { result ≡ missing (M.Memory.cells self.now.memory.now) self.now.limit self.now.root address }
+        ensures { result ≡ missing (M.Memory.cells self.now.memory.now) self.now.limit self.now.root.number address }
     {
         let Some(mid) = table_below(self.memory, self.limit, self.root, address, Level::Two) else {
             return 2;

@@ -9,12 +9,12 @@ use crate::finding::table_below;
 use crate::words::{clear_frame, put_word};
 use frames::{Pool, Use};
 use memory::Memory;
-use sv39::{Entry, Level, Rights, entry_of};
+use sv39::{Entry, Frame, Level, Rights, entry_of};
 
 /// The table below an entry, and how many tables were taken for it.
 #[derive(Clone, Copy)]
 pub struct Grown {
-    pub table: u16,
+    pub table: Frame,
     pub count: u64,
 }
 
@@ -34,17 +34,17 @@ fn leaf_word(frame: u16, rights: Rights) -> u64
 pub fn grow<M: Memory>(
     memory: &mut M,
     pool: &mut Pool,
-    table: u16,
+    table: Frame,
     address: u64,
     level: Level,
 ) -> Grown
-    ensures table { result.table ≡ (grown (M.Memory.cells memory.old) (frames_of pool.old) table address (number_of level)).table }
-    ensures count { result.count ≡ (grown (M.Memory.cells memory.old) (frames_of pool.old) table address (number_of level)).count }
+    ensures table { result.table.number ≡ (grown (M.Memory.cells memory.old) (frames_of pool.old) table.number address (number_of level)).table }
+    ensures count { result.count ≡ (grown (M.Memory.cells memory.old) (frames_of pool.old) table.number address (number_of level)).count }
     ensures few { result.count ≤ 1 }
-    ensures memory { M.Memory.cells memory.new ≡ (grown (M.Memory.cells memory.old) (frames_of pool.old) table address (number_of level)).cells }
-    ensures pool { frames_of pool.new ≡ (grown (M.Memory.cells memory.old) (frames_of pool.old) table address (number_of level)).frames }
+    ensures memory { M.Memory.cells memory.new ≡ (grown (M.Memory.cells memory.old) (frames_of pool.old) table.number address (number_of level)).cells }
+    ensures pool { frames_of pool.new ≡ (grown (M.Memory.cells memory.old) (frames_of pool.old) table.number address (number_of level)).frames }
 {
-    if let Some(below) = table_below(memory, pool.limit, table, address, level) {
+    if let Some(below) = table_below(memory, usize::from(pool.limit), table, address, level) {
         return Grown {
             table: below,
             count: 0,
@@ -54,18 +54,18 @@ pub fn grow<M: Memory>(
         return Grown { table, count: 0 };
     };
     clear_frame(memory, frame);
-    let entry = entry_of(u64::from(table), address, level);
+    let entry = entry_of(table, address, level);
     put_word(memory, entry, pointer_word(frame));
     Grown {
-        table: frame,
+        table: Frame::from(frame),
         count: 1,
     }
 }
 
 /// Writes a page's leaf into its table of level 0.
-pub fn put_leaf<M: Memory>(memory: &mut M, low: u16, address: u64, frame: u16, rights: Rights)
-    ensures { M.Memory.cells memory.new ≡ leaf_put (M.Memory.cells memory.old) low address frame rights }
+pub fn put_leaf<M: Memory>(memory: &mut M, low: Frame, address: u64, frame: u16, rights: Rights)
+    ensures { M.Memory.cells memory.new ≡ leaf_put (M.Memory.cells memory.old) low.number address frame rights }
 {
-    let entry = entry_of(u64::from(low), address, Level::Zero);
+    let entry = entry_of(low, address, Level::Zero);
     put_word(memory, entry, leaf_word(frame, rights));
 }

@@ -1,12 +1,12 @@
 // The walk: from the root down to a leaf, over any memory.
-ghost use Rattle.std.specs.Prelude.{◌≡◌, ◌+◌, ◌*◌, ◌^◌, ◌<◌, ◌≤◌, IfOk, Ok, Err, MatchResult};
+ghost use Rattle.std.specs.Prelude.{◌≡◌, ◌+◌, ◌*◌, ◌^◌, ◌<◌, ◌≤◌, IfOk};
 ghost use Rattle.sv39.specs.Address.{frame_of, doubleword_of};
 ghost use Rattle.sv39.specs.Levels.{number_of};
 ghost use Rattle.walker.specs.Walk.{decided, look_of, step_of, walk_from, walked, StepWithin};
 
 use crate::{Stop, WalkFault};
 use memory::{Beyond, Memory};
-use sv39::{Access, Entry, Level, TooWide, entry_of, is_canonical};
+use sv39::{Access, Entry, Frame, Level, entry_of, is_canonical};
 
 /// Where an access comes to: a frame, and the leaf that says so with its level.
 #[derive(Clone, Copy, PartialEq, Eq, Debug)]
@@ -104,21 +104,20 @@ fn take_step<M: Memory>(
 /// From the root's table down to a leaf: its entry and where it leads.
 fn descend<M: Memory>(
     memory: &M,
-    root: u64,
+    root: Frame,
     access: &Access,
 ) -> Result<(u64, Translation), WalkFault>
-    requires { root < 2 ^ 44 }
-    ensures value { result ≡ walk_from (M.Memory.cells memory.now) access.now 2 root }
+    ensures value { result ≡ walk_from (M.Memory.cells memory.now) access.now 2 root.number }
     ensures within { IfOk result (λ leaf. leaf.1.frame < 2 ^ 44) }
 {
     let entry = entry_of(root, access.address, Level::Two);
     let table = match take_step(memory, entry, Level::Two, access)? {
-        Step::Pointer(table) => table,
+        Step::Pointer(number) => Frame { number },
         Step::Leaf(found) => return Ok((entry, found)),
     };
     let entry = entry_of(table, access.address, Level::One);
     let table = match take_step(memory, entry, Level::One, access)? {
-        Step::Pointer(table) => table,
+        Step::Pointer(number) => Frame { number },
         Step::Leaf(found) => return Ok((entry, found)),
     };
     let entry = entry_of(table, access.address, Level::Zero);
@@ -133,23 +132,12 @@ fn descend<M: Memory>(
     }
 }
 
-/// A root frame, if it is below 2^44.
-fn frame_number(root: u64) -> Result<u64, TooWide>
-    ensures { MatchResult result (λ frame. (frame ≡ root) × (root < 2 ^ 44)) (λ _. 2 ^ 44 ≤ root) }
-{
-    if root < 1 << 44 {
-        Ok(root)
-    } else {
-        Err(TooWide)
-    }
-}
-
 /// Walks the tables below `root` for an access.
 pub fn walk<M: Memory>(memory: &M, root: u64, access: &Access) -> Result<Translation, WalkFault>
     ensures value { result ≡ walked (M.Memory.cells memory.now) root access.now }
     ensures within { IfOk result (λ t. t.frame < 2 ^ 44) }
 {
-    let root = frame_number(root)?;
+    let root = Frame::new(root)?;
     if !is_canonical(access.address) {
         return Err(WalkFault::NotCanonical(access.kind));
     }

@@ -7,21 +7,21 @@ use Rattle.walker.proofs.walking.descend.Goals as goal
 use Rattle.walker.proofs.walking.descend.Goals.{In-Pointer, In-Pointer-2}
 
 -- the walk from the root is the walk from the table of level 1 that was come to, and then from that of level 0
-at_1 : (g : Over) (c : In-Pointer g) → walk_from (g.M.Memory.cells c.args.memory.now) c.args.access.now 2 c.args.root ≡ walk_from (g.M.Memory.cells c.args.memory.now) c.args.access.now 1 c.in-Pointer.table
+at_1 : (g : Over) (c : In-Pointer g) → walk_from (g.M.Memory.cells c.args.memory.now) c.args.access.now 2 c.args.root.number ≡ walk_from (g.M.Memory.cells c.args.memory.now) c.args.access.now 1 c.in-Pointer.number
 at_1 g c =
-    on_pointer (g.M.Memory.cells c.args.memory.now) c.args.access.now 2 c.args.root c.entry_of-entry.result c.take_step.result c.entry_of-entry.ensures c.take_step.ensures.value 1 c.in-Pointer.table c.in_ok-table.field-0 refl c.in_ok-table.was c.in-Pointer.is
+    on_pointer (g.M.Memory.cells c.args.memory.now) c.args.access.now 2 c.args.root.number c.entry_of-entry.result c.take_step.result c.entry_of-entry.ensures c.take_step.ensures.value 1 c.in-Pointer.number c.in_ok-number.field-0 refl c.in_ok-number.was c.in-Pointer.is
 
-at_0 : (g : Over) (c : In-Pointer-2 g) → walk_from (g.M.Memory.cells c.args.memory.now) c.args.access.now 1 c.in-Pointer.table ≡ walk_from (g.M.Memory.cells c.args.memory.now) c.args.access.now 0 c.in-Pointer-2.table
+at_0 : (g : Over) (c : In-Pointer-2 g) → walk_from (g.M.Memory.cells c.args.memory.now) c.args.access.now 1 c.in-Pointer.number ≡ walk_from (g.M.Memory.cells c.args.memory.now) c.args.access.now 0 c.in-Pointer-2.number
 at_0 g c =
-    on_pointer (g.M.Memory.cells c.args.memory.now) c.args.access.now 1 c.in-Pointer.table c.entry_of-entry-2.result c.take_step-2.result c.entry_of-entry-2.ensures c.take_step-2.ensures.value 0 c.in-Pointer-2.table c.in_ok-table-2.field-0 refl c.in_ok-table-2.was c.in-Pointer-2.is
+    on_pointer (g.M.Memory.cells c.args.memory.now) c.args.access.now 1 c.in-Pointer.number c.entry_of-entry-2.result c.take_step-2.result c.entry_of-entry-2.ensures c.take_step-2.ensures.value 0 c.in-Pointer-2.number c.in_ok-number-2.field-0 refl c.in_ok-number-2.was c.in-Pointer-2.is
 
-pub returns-in_err-table : goal.returns-in_err-table
-returns-in_err-table g c =
+pub returns-in_err-number : goal.returns-in_err-number
+returns-in_err-number g c =
     let p = err_from_is_err_and c.from_residual.result c.from_residual.ensures.1 in
     record {
       value =
           p.1 ∙ ap Err p.2
-          ∙ on_fault (g.M.Memory.cells c.args.memory.now) c.args.access.now 2 c.args.root c.entry_of-entry.result c.take_step.result c.entry_of-entry.ensures c.take_step.ensures.value c.in_err-table.field-0.0 c.in_err-table.was;
+          ∙ on_fault (g.M.Memory.cells c.args.memory.now) c.args.access.now 2 c.args.root.number c.entry_of-entry.result c.take_step.result c.entry_of-entry.ensures c.take_step.ensures.value c.in_err-number.field-0.0 c.in_err-number.was;
       within = IfOk-from_err c.from_residual.result _ c.from_residual.ensures.0;
     }
 
@@ -29,28 +29,28 @@ pub returns-in-Leaf : goal.returns-in-Leaf
 returns-in-Leaf g c =
     record {
       value =
-          on_leaf (g.M.Memory.cells c.args.memory.now) c.args.access.now 2 c.args.root c.entry_of-entry.result c.take_step.result c.entry_of-entry.ensures c.take_step.ensures.value c.in_ok-table.field-0 c.in-Leaf.found c.in_ok-table.was c.in-Leaf.is;
-      within = subst StepWithin c.in-Leaf.is c.in_ok-table.ensures.within;
+          on_leaf (g.M.Memory.cells c.args.memory.now) c.args.access.now 2 c.args.root.number c.entry_of-entry.result c.take_step.result c.entry_of-entry.ensures c.take_step.ensures.value c.in_ok-number.field-0 c.in-Leaf.found c.in_ok-number.was c.in-Leaf.is;
+      within = subst StepWithin c.in-Leaf.is c.in_ok-number.ensures.within;
     }
 
-pub returns-in_err-table-2 : goal.returns-in_err-table-2
-returns-in_err-table-2 g c =
-    let p = err_from_is_err_and c.from_residual-in_err-table-2.result c.from_residual-in_err-table-2.ensures.1 in
+pub returns-in_err-number-2 : goal.returns-in_err-number-2
+returns-in_err-number-2 g c =
+    let p = err_from_is_err_and c.from_residual-in_err-number-2.result c.from_residual-in_err-number-2.ensures.1 in
     record {
       value =
           p.1 ∙ ap Err p.2
-          ∙ on_fault (g.M.Memory.cells c.args.memory.now) c.args.access.now 1 c.in-Pointer.table c.entry_of-entry-2.result c.take_step-2.result c.entry_of-entry-2.ensures c.take_step-2.ensures.value c.in_err-table-2.field-0.0 c.in_err-table-2.was
-          ∙ sym (at_1 g (goal.at.returns-in_err-table-2 g c).In-Pointer);
-      within = IfOk-from_err c.from_residual-in_err-table-2.result _ c.from_residual-in_err-table-2.ensures.0;
+          ∙ on_fault (g.M.Memory.cells c.args.memory.now) c.args.access.now 1 c.in-Pointer.number c.entry_of-entry-2.result c.take_step-2.result c.entry_of-entry-2.ensures c.take_step-2.ensures.value c.in_err-number-2.field-0.0 c.in_err-number-2.was
+          ∙ sym (at_1 g (goal.at.returns-in_err-number-2 g c).In-Pointer);
+      within = IfOk-from_err c.from_residual-in_err-number-2.result _ c.from_residual-in_err-number-2.ensures.0;
     }
 
 pub returns-in-Leaf-2 : goal.returns-in-Leaf-2
 returns-in-Leaf-2 g c =
     record {
       value =
-          on_leaf (g.M.Memory.cells c.args.memory.now) c.args.access.now 1 c.in-Pointer.table c.entry_of-entry-2.result c.take_step-2.result c.entry_of-entry-2.ensures c.take_step-2.ensures.value c.in_ok-table-2.field-0 c.in-Leaf-2.found c.in_ok-table-2.was c.in-Leaf-2.is
+          on_leaf (g.M.Memory.cells c.args.memory.now) c.args.access.now 1 c.in-Pointer.number c.entry_of-entry-2.result c.take_step-2.result c.entry_of-entry-2.ensures c.take_step-2.ensures.value c.in_ok-number-2.field-0 c.in-Leaf-2.found c.in_ok-number-2.was c.in-Leaf-2.is
           ∙ sym (at_1 g (goal.at.returns-in-Leaf-2 g c).In-Pointer);
-      within = subst StepWithin c.in-Leaf-2.is c.in_ok-table-2.ensures.within;
+      within = subst StepWithin c.in-Leaf-2.is c.in_ok-number-2.ensures.within;
     }
 
 pub returns-in_err-take_step : goal.returns-in_err-take_step
@@ -59,7 +59,7 @@ returns-in_err-take_step g c =
     record {
       value =
           p.1 ∙ ap Err p.2
-          ∙ on_fault (g.M.Memory.cells c.args.memory.now) c.args.access.now 0 c.in-Pointer-2.table c.entry_of-entry-3.result c.take_step-3.result c.entry_of-entry-3.ensures c.take_step-3.ensures.value c.in_err-take_step.field-0.0 c.in_err-take_step.was
+          ∙ on_fault (g.M.Memory.cells c.args.memory.now) c.args.access.now 0 c.in-Pointer-2.number c.entry_of-entry-3.result c.take_step-3.result c.entry_of-entry-3.ensures c.take_step-3.ensures.value c.in_err-take_step.field-0.0 c.in_err-take_step.was
           ∙ sym (at_0 g (goal.at.returns-in_err-take_step g c).In-Pointer-2)
           ∙ sym (at_1 g (goal.at.returns-in_err-take_step g c).In-Pointer);
       within = IfOk-from_err c.from_residual-in_err-take_step.result _ c.from_residual-in_err-take_step.ensures.0;
@@ -69,7 +69,7 @@ pub returns-in-Pointer-3 : goal.returns-in-Pointer-3
 returns-in-Pointer-3 g c =
     record {
       value =
-          on_pointer_at_zero (g.M.Memory.cells c.args.memory.now) c.args.access.now c.in-Pointer-2.table c.entry_of-entry-3.result c.take_step-3.result c.entry_of-entry-3.ensures c.take_step-3.ensures.value c.in_ok-take_step.field-0 c.in-Pointer-3.field-0 c.in_ok-take_step.was c.in-Pointer-3.is
+          on_pointer_at_zero (g.M.Memory.cells c.args.memory.now) c.args.access.now c.in-Pointer-2.number c.entry_of-entry-3.result c.take_step-3.result c.entry_of-entry-3.ensures c.take_step-3.ensures.value c.in_ok-take_step.field-0 c.in-Pointer-3.field-0 c.in_ok-take_step.was c.in-Pointer-3.is
           ∙ sym (at_0 g (goal.at.returns-in-Pointer-3 g c).In-Pointer-2)
           ∙ sym (at_1 g (goal.at.returns-in-Pointer-3 g c).In-Pointer);
       within = tt;
@@ -79,7 +79,7 @@ pub returns-in-Leaf-3 : goal.returns-in-Leaf-3
 returns-in-Leaf-3 g c =
     record {
       value =
-          on_leaf (g.M.Memory.cells c.args.memory.now) c.args.access.now 0 c.in-Pointer-2.table c.entry_of-entry-3.result c.take_step-3.result c.entry_of-entry-3.ensures c.take_step-3.ensures.value c.in_ok-take_step.field-0 c.in-Leaf-3.found c.in_ok-take_step.was c.in-Leaf-3.is
+          on_leaf (g.M.Memory.cells c.args.memory.now) c.args.access.now 0 c.in-Pointer-2.number c.entry_of-entry-3.result c.take_step-3.result c.entry_of-entry-3.ensures c.take_step-3.ensures.value c.in_ok-take_step.field-0 c.in-Leaf-3.found c.in_ok-take_step.was c.in-Leaf-3.is
           ∙ sym (at_0 g (goal.at.returns-in-Leaf-3 g c).In-Pointer-2)
           ∙ sym (at_1 g (goal.at.returns-in-Leaf-3 g c).In-Pointer);
       within = subst StepWithin c.in-Leaf-3.is c.in_ok-take_step.ensures.within;

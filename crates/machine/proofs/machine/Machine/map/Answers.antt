@@ -13,12 +13,13 @@ returns g c =
     let m = c.self.inside in
     let s = core_state (g.M.Memory.cells m.memory) (g.P.Policy.last m.policy) m.core in
     let a = c.args.address in
-    let mid = grown_mid s.cells s.frames c.in_ok-root.root a in
+    let mid = grown_mid s.cells s.frames c.from-root.result.number a in
     let one = c.grow-mid.ensures in
     let two = c.grow-low.ensures in
-    let low = low_from_parts mid a (g.M.Memory.cells c.grow-mid.new.memory) (frames_of c.grow-mid.new.pool) c.grow-mid.result.table one.memory one.pool one.table in
+    let low = low_from_parts mid a (g.M.Memory.cells c.grow-mid.new.memory) (frames_of c.grow-mid.new.pool) c.grow-mid.result.table.number one.memory one.pool one.table in
     did_at (map_by c.args.self.now.state a c.args.rights) c.in_ok-root.ensures
     (did_at (λ w. map_by w.state a c.args.rights (Ok (c.in_ok-root.root, c.in_ok-root.held))) c.self.view_is
+    (did_at (λ (root : ℕ). map_by s a c.args.rights (Ok (root, c.in_ok-root.held))) c.from-root.ensures
     (record {
       answer =
           ap Ok
@@ -36,4 +37,4 @@ returns g c =
       rows = refl;
       count = refl;
       last = refl;
-    }))
+    })))
