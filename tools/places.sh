@@ -1,7 +1,7 @@
 #!/bin/sh
 # The places that the design pass counts, by what a line of source shows. Run at the top: tools/places.sh [FOLDER].
 cd "${1:-.}" || exit 1
-src() { find crates -path '*/src/*.rt' | sort; }
+src() { ls crates/*/src/*.rt; }
 count() {
   n=$(src | xargs grep -nE "$2" | wc -l)
   printf '%-58s %s\n' "$1" "$n"

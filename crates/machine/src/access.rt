@@ -162,22 +162,20 @@ impl<M: Memory, P: Policy> Machine<M, P> {
         let status = self.core.harts[id.number];
         let space = status.space.ok_or(Refusal::InNoSpace)?;
         let access = request.access(status);
-        match self.find(id, space, &access) {
-            Ok(found) => {
-                let place = 512 * found.frame + access.address / 8 % 512;
-                let word = transfer(&mut self.memory, place, request.action);
-                Ok(Reached {
-                    frame: found.frame,
-                    by: found.by,
-                    word,
-                })
-            }
-            Err(cause) => Err(Refusal::Fault(HartFault {
+        let found = self.find(id, space, &access).map_err(|cause| {
+            Refusal::Fault(HartFault {
                 hart,
                 kind: access.kind,
                 address: access.address,
                 cause,
-            })),
-        }
+            })
+        })?;
+        let place = 512 * found.frame + access.address / 8 % 512;
+        let word = transfer(&mut self.memory, place, request.action);
+        Ok(Reached {
+            frame: found.frame,
+            by: found.by,
+            word,
+        })
     }
 }
