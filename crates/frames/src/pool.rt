@@ -6,6 +6,7 @@ ghost use Rattle.frames.specs.Busy.{busy};
 use crate::pile::Pile;
 use crate::state::FrameState;
 
+// No model: that asks a `Copy` value to give its fields back, and a pool's forgets what lies above the pile.
 /// Frames below `mark` were used at least once; of them, those on the pile are free and the others busy. `limit` frames
 /// are the pool's.
 #[derive(Clone, Copy)]

@@ -47,6 +47,7 @@ pub struct Reached {
     pub word: Option<u64>,
 }
 
+// That the frame is one's number is a clause of `find` and `fill`: the step's definition makes this record.
 /// Where an access comes to.
 #[derive(Clone, Copy)]
 pub struct Found {

@@ -13,6 +13,7 @@ pub struct Hart {
     pub mxr: bool,
 }
 
+// Rows stand apart from what harts are set to, as in the state's value: no call writes both.
 /// The frames, the root table of each space, the debts, and of each hart what it is set to and its ways. The first
 /// `count` harts were made.
 #[derive(Clone, Copy)]

@@ -28,6 +28,7 @@ pub struct Unmapped {
     pub frame: u64,
 }
 
+// Space and address come as the caller names them, and are a `PageId` only once they are known to be a page.
 impl<M: Memory, P: Policy> Machine<M, P> {
     /// A new space with an empty root table; answers its number. Refuses 13, 14.
     pub fn space(&mut self) -> Result<usize, Refusal>

@@ -11,6 +11,7 @@ pub struct Beyond {
     pub place: u64,
 }
 
+// A refusal's number is a definition of its own type: a trait over all would still have one for each.
 impl Beyond {
     /// The number of this refusal.
     pub fn number(self) -> u8

@@ -33,6 +33,7 @@ impl<A: Memory, B: Memory> Interleaved<A, B> {
     }
 }
 
+// The sides are of two types, and a read and a write lend them differently, so each chooses its side.
 impl<A: Memory, B: Memory> Memory for Interleaved<A, B> {
     ghost cells = { λ s. woven (A.Memory.cells s.first) (B.Memory.cells s.second) };
 

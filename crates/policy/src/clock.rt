@@ -44,6 +44,7 @@ impl Dial {
         ensures hand { self.new.hand ≡ (swept self.old.marks self.old.hand self.old.last).hand }
         ensures last { self.new.last ≡ self.old.last }
     {
+        // No iterator: a look writes what the next one reads, and two of its ends go on.
         for _look in 0..LOOKS {
             let way = self.hand;
             self.hand = (way + 1) % 16;

@@ -82,6 +82,7 @@ fn show_all<M: Memory>(rt: &HostRuntime, memory: &M, panel: &Panel) -> anyhow::R
     Ok(())
 }
 
+// Both stories seal their blocks: a crate for these lines would be no plainer.
 /// Gives every block its check, by a write to its first doubleword.
 fn seal(blocks: &mut Blocks<'_>) -> anyhow::Result<()> {
     for block in 0..BLOCKS as u64 {

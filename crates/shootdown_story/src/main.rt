@@ -24,6 +24,7 @@ fn perform_over<M: Memory + Drop, P: Policy + Drop>(
     story::perform(rt, &mut machine)
 }
 
+// Both stories seal their blocks: a crate for these lines would be no plainer.
 /// Gives every block its check, by a write to its first doubleword.
 fn seal(bytes: &mut [u8]) -> anyhow::Result<()> {
     let mut blocks = Blocks::new(bytes);

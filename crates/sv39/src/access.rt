@@ -49,6 +49,7 @@ impl fmt::Display for Mode {
     }
 }
 
+// Three lists, as in the standard: one match over both kinds of case would say the same nine numbers.
 impl Kind {
     /// The standard's code of a page fault.
     pub fn page_fault(self) -> u8

@@ -30,6 +30,7 @@ fn leaf_word(frame: u16, rights: Rights) -> u64
     Entry::leaf(u64::from(frame), rights).unwrap().pack()
 }
 
+// Memory and pool come apart, as the machine lends them: it keeps each in a part of its own.
 /// The table below an address's entry in a table, taken from the pool where it is missing.
 pub fn grow<M: Memory>(
     memory: &mut M,

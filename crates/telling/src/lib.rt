@@ -37,6 +37,7 @@ impl fmt::Display for Letters {
     }
 }
 
+// `walks` shows such a number too: a crate for these lines would be no plainer.
 /// A number, or a word where there is none.
 fn show_or<W: fmt::Write, N: fmt::Display + Drop>(
     f: &mut fmt::Formatter<W>,

@@ -58,6 +58,7 @@ impl Row {
         count
     }
 
+    // No `get_mut`: of an array it leaves nothing known of the other ways.
     /// Fills a way, if there is one of that number.
     pub fn put(&mut self, way: usize, held: Way)
         ensures { self.new.ways ≡ slice_set self.old.ways way (Some held) }

@@ -68,6 +68,7 @@ impl From<TooWide> for WalkFault {
     }
 }
 
+// Numbers, as the rules and the standard list them.
 /// What a fault tells: its number, the standard's code, the level and entry it stopped at, and the memory's refusal.
 #[derive(Clone, Copy, PartialEq, Eq, Debug, Default)]
 pub struct Report {

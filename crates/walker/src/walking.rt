@@ -8,6 +8,7 @@ use crate::{Stop, WalkFault};
 use memory::{Beyond, Memory};
 use sv39::{Access, Entry, Frame, Level, entry_of, is_canonical};
 
+// Frame and level as numbers, for the walk is defined by recursion on the level's number.
 /// Where an access comes to: a frame, and the leaf that says so with its level.
 #[derive(Clone, Copy, PartialEq, Eq, Debug)]
 pub struct Translation {
@@ -16,6 +17,7 @@ pub struct Translation {
     pub leaf: Entry,
 }
 
+// That a step comes to a frame's number is a clause: a type would put a proof into the walk's definition.
 /// What an entry leads to.
 #[derive(Clone, Copy)]
 pub enum Step {
@@ -83,6 +85,7 @@ fn look<M: Memory>(memory: &M, entry: u64, level: Level, access: &Access) -> Res
     decide(Entry::unpack(word), level, access)
 }
 
+// Memory and access come as `walk` has them: a struct of both would only name them again.
 /// The same, with the fault of the walk where it stops here.
 fn take_step<M: Memory>(
     memory: &M,
@@ -101,6 +104,7 @@ fn take_step<M: Memory>(
     })
 }
 
+// Unrolled: as a recursion over the level a walk took 400 instructions in place of 366, and a fifth more time.
 /// From the root's table down to a leaf: its entry and where it leads.
 fn descend<M: Memory>(
     memory: &M,

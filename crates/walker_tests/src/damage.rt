@@ -90,8 +90,8 @@ fn bytes_after_the_last_block_stay(rt: HostRuntime) -> Result<(), Fail> {
     blocks.write(125, 1)?;
     assert_eq!(rt; blocks.write(126, 1).is_err(), true);
     drop(blocks);
-    for place in 1024..1030 {
-        assert_eq!(rt; bytes[place], 0xa5);
+    for byte in &bytes[1024..] {
+        assert_eq!(rt; *byte, 0xa5);
     }
     Ok(())
 }

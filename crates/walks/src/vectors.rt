@@ -48,6 +48,7 @@ impl Case {
     }
 }
 
+// No `FromStr`: the letters are the file's, and the types another crate's.
 fn kind_of(word: &str) -> Option<Kind> {
     match word {
         "f" => Some(Kind::Fetch),
@@ -80,6 +81,7 @@ pub struct Outcome {
     pub answer: Result<Translation, WalkFault>,
 }
 
+// `telling` shows such a number too: a crate for these lines would be no plainer.
 /// A number, or `-` where there is none.
 #[derive(Clone, Copy)]
 struct OrDash(Option<u64>);
