@@ -6,6 +6,7 @@ ghost use Rattle.adversary.specs.Steering.{steered_within, steered_apart};
 
 use policy::{Policy, PolicyRefusal, accept};
 
+// A list with a place in it, and no iterator: what it promises is said by the place.
 /// The numbers still to be picked begin at `cursor`; past the script's end every number is 0.
 #[derive(Drop)]
 pub struct Scripted {

@@ -1,21 +1,17 @@
 // Rows, debts and refusals as text.
 use debts::{Debt, Unsettled};
 use std::test::Fail;
-use sv39::{Access, Flags, Kind, Mode};
+use sv39::{Access, Kind, Mode, Rights};
 use tlb::{PageId, Row, Way};
 
 fn way(page: u64, frame: u64, w: bool) -> Way {
-    let flags = Flags {
-        v: true,
+    let rights = Rights {
         r: true,
         w,
         x: false,
         u: true,
-        g: false,
-        a: true,
-        d: w,
     };
-    Way::new(PageId { space: 0, page }, frame, flags)
+    Way::new(PageId { space: 0, page }, frame, rights.leaf_flags())
 }
 
 #[test]

@@ -10,7 +10,7 @@ pub struct Pile {
 }
 
 impl Pile {
-    pub fn empty() -> Pile
+    pub(crate) fn empty() -> Pile
         ensures height { result.height ≡ 0 }
         ensures frames { result.frames ≡ replicate 1024 0 }
     {
@@ -21,7 +21,7 @@ impl Pile {
     }
 
     /// Takes the frame on top off, if there is one.
-    pub fn pop(&mut self) -> Option<u16>
+    pub(crate) fn pop(&mut self) -> Option<u16>
         ensures top { result ≡ (if nat_lt 0 self.old.height then Some (slice_index self.old.frames (self.old.height - 1)) else None) }
         ensures height { self.new.height ≡ self.old.height - 1 }
         ensures frames { self.new.frames ≡ self.old.frames }
@@ -34,7 +34,7 @@ impl Pile {
     }
 
     /// Puts a frame on top.
-    pub fn push(&mut self, frame: u16)
+    pub(crate) fn push(&mut self, frame: u16)
         requires { self.old.height < 1024 }
         ensures height { self.new.height ≡ self.old.height + 1 }
         ensures frames { self.new.frames ≡ slice_set self.old.frames self.old.height frame }

@@ -4,6 +4,7 @@ ghost use Rattle.frames.specs.Busy.{state_of_use};
 
 use std::fmt;
 
+// Five cases, and no `Option<Use>`: makers and definitions name each of them.
 /// Free; a page table; held by whoever it was granted to; mapped at a page; or owed, unmapped and not yet released.
 #[derive(Clone, Copy, PartialEq, Eq, Debug)]
 pub enum FrameState {

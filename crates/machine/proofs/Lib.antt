@@ -1,4 +1,2 @@
 pub mod Filling
-pub mod Mapping
 pub mod States
-pub mod Touches

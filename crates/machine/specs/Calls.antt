@@ -1,5 +1,7 @@
 -- The step of a call, whichever it is.
 use Rattle.std.specs.Prelude.{ℕ, Ok, Err, Result}
+use Rattle.sv39.specs.declared.access.Mode.{Mode}
+use Rattle.machine.specs.declared.access.Action.{Action}
 use Rattle.machine.specs.declared.call.Answer.{Answer}
 use Rattle.machine.specs.declared.call.Answer.TheVariants as answer
 use Rattle.machine.specs.declared.call.Call.{Call}
@@ -9,6 +11,10 @@ use Rattle.machine.specs.Accesses.{access_step}
 use Rattle.machine.specs.Harts.{enter_step, status_step, fence_step, settle_step}
 use Rattle.machine.specs.Pages.{space_step, grant_step, back_step, map_step, protect_step, unmap_step}
 use Rattle.machine.specs.State.{State}
+
+-- the call of an access, by its parts
+abbrev pub access_call : ℕ → Mode → ℕ → Action → Call
+access_call hart mode address action = Access hart (record { mode = mode; address = address; action = action })
 
 -- a step with its answer told as one of all calls
 abbrev pub told_as : {A : Type 0} → (A → Answer) → Result A Refusal → Result Answer Refusal

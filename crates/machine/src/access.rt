@@ -11,7 +11,7 @@ use crate::machine::Machine;
 use crate::refusal::{Cause, HartFault, Refusal};
 use memory::Memory;
 use policy::Policy;
-use sv39::{Access, Kind, Mode, page_of};
+use sv39::{Access, Frame, Kind, Mode, doubleword_of, page_of};
 use tables::{put_word, word_at};
 use tlb::{HartId, Rows, Way};
 use walker::walk;
@@ -48,6 +48,7 @@ pub struct Reached {
 }
 
 // That the frame is one's number is a clause of `find` and `fill`: the step's definition makes this record.
+// And a record beside `Reached`, as nothing is read yet.
 /// Where an access comes to.
 #[derive(Clone, Copy)]
 pub struct Found {
@@ -171,7 +172,10 @@ impl<M: Memory, P: Policy> Machine<M, P> {
                 cause,
             })
         })?;
-        let place = 512 * found.frame + access.address / 8 % 512;
+        let frame = Frame {
+            number: found.frame,
+        };
+        let place = doubleword_of(frame, access.address);
         let word = transfer(&mut self.memory, place, request.action);
         Ok(Reached {
             frame: found.frame,

@@ -1,15 +1,15 @@
 // Calls and answers as values, so that a list of calls can be made and told.
 ghost use Rattle.std.specs.Prelude.{◌≡◌};
-ghost use Rattle.machine.specs.Calls.{call_step};
+ghost use Rattle.machine.specs.Calls.{access_call, call_step};
 ghost use Rattle.machine.specs.State.{Did};
 
-use crate::access::{Reached, Request};
+use crate::access::{Action, Reached, Request};
 use crate::machine::Machine;
 use crate::paging::{Protected, Unmapped};
 use crate::refusal::Refusal;
 use memory::Memory;
 use policy::Policy;
-use sv39::Rights;
+use sv39::{Mode, Rights};
 
 /// A call of a machine with its arguments.
 #[derive(Clone, Copy, PartialEq, Eq, Debug)]
@@ -75,6 +75,20 @@ pub enum Answer {
     Emptied(usize),
     /// Of settle: the frame released, if one was.
     Settled(Option<u64>),
+}
+
+impl Call {
+    /// The call of an access.
+    pub fn access(hart: usize, mode: Mode, address: u64, action: Action) -> Call
+        ensures { result ≡ access_call hart mode address action }
+    {
+        let request = Request {
+            mode,
+            address,
+            action,
+        };
+        Call::Access { hart, request }
+    }
 }
 
 impl<M: Memory, P: Policy> Machine<M, P> {

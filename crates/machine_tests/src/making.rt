@@ -1,34 +1,28 @@
 // What the tests make their calls with.
-use machine::{Action, Answer, By, Call, Cause, HartFault, Machine, Reached, Refusal, Request};
+use machine::{Action, Answer, By, Call, Cause, HartFault, Machine, Reached, Refusal};
 use memory::Memory;
 use policy::Policy;
 use std::process::Abort;
 use sv39::{Kind, Mode, Rights};
+use telling::Told;
 use walker::{Stop, WalkFault};
 
-/// A call and what it must answer.
-#[derive(Clone, Copy)]
-pub struct Line {
-    pub call: Call,
-    pub answer: Result<Answer, Refusal>,
-}
-
-pub fn yes(call: Call, answer: Answer) -> Line {
-    Line {
+pub fn yes(call: Call, answer: Answer) -> Told {
+    Told {
         call,
         answer: Ok(answer),
     }
 }
 
-pub fn no(call: Call, refusal: Refusal) -> Line {
-    Line {
+pub fn no(call: Call, refusal: Refusal) -> Told {
+    Told {
         call,
         answer: Err(refusal),
     }
 }
 
 /// Makes the calls in their order and compares each answer.
-pub fn expect<M: Memory, P: Policy>(rt: &impl Abort, machine: &mut Machine<M, P>, lines: &[Line]) {
+pub fn expect<M: Memory, P: Policy>(rt: &impl Abort, machine: &mut Machine<M, P>, lines: &[Told]) {
     for line in lines {
         let answer = machine.call(line.call);
         assert_eq!(rt; answer, line.answer);
@@ -45,25 +39,16 @@ pub fn rights(letters: u8) -> Rights {
     }
 }
 
-fn access(hart: usize, mode: Mode, address: u64, action: Action) -> Call {
-    let request = Request {
-        mode,
-        address,
-        action,
-    };
-    Call::Access { hart, request }
-}
-
 pub fn load(hart: usize, mode: Mode, address: u64) -> Call {
-    access(hart, mode, address, Action::Load)
+    Call::access(hart, mode, address, Action::Load)
 }
 
 pub fn fetch(hart: usize, mode: Mode, address: u64) -> Call {
-    access(hart, mode, address, Action::Fetch)
+    Call::access(hart, mode, address, Action::Fetch)
 }
 
 pub fn store(hart: usize, mode: Mode, address: u64, value: u64) -> Call {
-    access(hart, mode, address, Action::Store(value))
+    Call::access(hart, mode, address, Action::Store(value))
 }
 
 pub fn map(space: usize, address: u64, frame: u64, letters: u8) -> Call {

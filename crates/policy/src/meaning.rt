@@ -39,6 +39,7 @@ pub fn accept(hart: usize, way: usize) -> Result<(), PolicyRefusal>
     }
 }
 
+// Hart and way are numbers, as a maker's policy is called with any, and refuses.
 /// A policy means, for each hart, the way touched last (`last`) and the way that it would pick now (`choice`), which is
 /// a way and never the one touched last.
 pub trait Policy {

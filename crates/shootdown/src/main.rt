@@ -5,7 +5,7 @@ mod panel;
 
 use memory::{Blocks, Interleaved, Memory, Words};
 use panel::{Name, Panel};
-use sv39::{Access, Kind, Mode};
+use sv39::{Access, Frame, Kind, Mode};
 use walker::{WalkFault, walk};
 
 /// Blocks of the first side: enough for 4,096 doublewords.
@@ -42,7 +42,7 @@ fn show<M: Memory>(
         mode,
         ..
     } = *access;
-    match walk(memory, panel.root, access) {
+    match walk(memory, panel.root.number, access) {
         Ok(t) => {
             let frame = t.frame;
             let level = t.level;
@@ -106,15 +106,15 @@ fn show_panels(rt: &HostRuntime, bytes: &mut [u8], words: &mut [u64]) -> anyhow:
     let mut memory = Interleaved::new(blocks, Words::new(words));
     let near = Panel {
         name: Name::Near,
-        root: 1,
-        middle: 2,
-        lowest: 3,
+        root: Frame::from(1u16),
+        middle: Frame::from(2u16),
+        lowest: Frame::from(3u16),
     };
     let far = Panel {
         name: Name::Far,
-        root: 4,
-        middle: 5,
-        lowest: 6,
+        root: Frame::from(4u16),
+        middle: Frame::from(5u16),
+        lowest: Frame::from(6u16),
     };
     near.build(&mut memory, 8)?;
     far.build(&mut memory, 11)?;

@@ -1,12 +1,13 @@
 // One shootdown, told from start to end: eight harts, two panels, one frame.
 #![tactic(auto)]
 
-mod printing;
+mod stage;
 mod story;
 
 use machine::{Machine, check};
 use memory::{Blocks, Interleaved, Memory, Words};
 use policy::{Policy, TreePlru};
+use stage::Stage;
 
 /// Blocks of the first side: enough for 4,096 doublewords.
 const BLOCKS: usize = 66;
@@ -21,7 +22,7 @@ fn perform_over<M: Memory + Drop, P: Policy + Drop>(
 ) -> anyhow::Result<()> {
     check(&memory, story::HARTS)?;
     let mut machine = Machine::new(memory, policy, story::HARTS);
-    story::perform(rt, &mut machine)
+    Stage::new(rt, &mut machine).perform()
 }
 
 // Both stories seal their blocks: a crate for these lines would be no plainer.

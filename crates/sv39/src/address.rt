@@ -1,6 +1,6 @@
 // Addresses: when one is canonical, its indexes, its entries and its page.
 ghost use Rattle.std.specs.Prelude.{◌≡◌, ◌<◌, ◌≤◌, [], ◌∷◌};
-ghost use Rattle.sv39.specs.Address.{canonical, index, page, entry_of};
+ghost use Rattle.sv39.specs.Address.{canonical, index, page, entry_of, doubleword_of};
 ghost use Rattle.sv39.specs.Levels.{number_of};
 
 use crate::Frame;
@@ -44,6 +44,13 @@ pub fn entry_of(table: Frame, address: u64, level: Level) -> u64
     ensures { result ≡ entry_of table.number address (number_of level) }
 {
     512 * table.number + index_at(address, level)
+}
+
+/// The doubleword number that an address names in a frame.
+pub fn doubleword_of(frame: Frame, address: u64) -> u64
+    ensures { result ≡ doubleword_of frame.number address }
+{
+    512 * frame.number + address / 8 % 512
 }
 
 /// The indexes of an address at levels 0, 1 and 2, in this order.

@@ -8,6 +8,6 @@ mod frame;
 mod packing;
 
 pub use access::{Access, Kind, Mode};
-pub use address::{Level, entry_of, index_at, indexes, is_canonical, page_of};
+pub use address::{Level, doubleword_of, entry_of, index_at, indexes, is_canonical, page_of};
 pub use entry::{Entry, Flags, Rights, TooWide};
 pub use frame::Frame;

@@ -46,15 +46,16 @@ impl Rights {
     pub fn leaf_flags(self) -> Flags
         ensures { result ≡ leaf_flags self }
     {
+        let Rights { r, w, x, u } = self;
         Flags {
             v: true,
-            r: self.r,
-            w: self.w,
-            x: self.x,
-            u: self.u,
-            g: false,
+            r,
+            w,
+            x,
+            u,
             a: true,
-            d: self.w,
+            d: w,
+            ..Flags::default()
         }
     }
 }
@@ -69,6 +70,7 @@ impl From<Flags> for Rights {
     }
 }
 
+// A trait over all refusals would have a number for each type all the same.
 impl TooWide {
     /// The number of this refusal.
     pub fn number(self) -> u8

@@ -72,9 +72,7 @@ impl<'a, M: Memory> Tables<'a, M> {
         let Some(mid) = table_below(self.memory, self.limit, self.root, address, Level::Two) else {
             return 2;
         };
-        match table_below(self.memory, self.limit, mid, address, Level::One) {
-            Some(_) => 0,
-            None => 1,
-        }
+        let low = table_below(self.memory, self.limit, mid, address, Level::One);
+        usize::from(low.is_none())
     }
 }

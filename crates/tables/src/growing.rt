@@ -11,6 +11,7 @@ use frames::{Pool, Use};
 use memory::Memory;
 use sv39::{Entry, Frame, Level, Rights, entry_of};
 
+// A count and no flag, as a map adds them up.
 /// The table below an entry, and how many tables were taken for it.
 #[derive(Clone, Copy)]
 pub struct Grown {

@@ -7,6 +7,7 @@ use crate::page::{PageId, Scope};
 use crate::slots::lowest_empty;
 use crate::way::Way;
 
+// An array, as nothing may be allocated; and a way's number is its place.
 #[derive(Clone, Copy)]
 pub struct Row {
     pub ways: [Option<Way>; 16],

@@ -3,6 +3,7 @@ ghost use Rattle.std.specs.Prelude.{◌≡◌, length};
 
 use crate::row::Row;
 
+// No model: that asks a `Copy` value to give its fields back, and these would be made anew from their ways.
 /// A row for each hart.
 #[derive(Clone, Copy)]
 pub struct Rows {

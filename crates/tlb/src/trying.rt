@@ -7,6 +7,7 @@ use crate::row::Row;
 use sv39::Access;
 
 impl Row {
+    // That the frame is one's number is a clause: the definition answers it as a number.
     /// The way that serves an access to a page of a space, with its frame as a number of 44 bits. The way for that page is
     /// emptied where it does not serve it.
     pub fn try_way(&mut self, page: PageId, access: &Access) -> Option<(usize, u64)>

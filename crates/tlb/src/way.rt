@@ -48,9 +48,9 @@ impl Way {
             w,
             x,
             u,
-            g: false,
             a: self.a,
             d: self.d,
+            ..Flags::default()
         }
     }
 }

@@ -50,6 +50,7 @@ pub enum WalkFault {
     RootTooWide(TooWide),
     #[error("31: the address is not canonical")]
     NotCanonical(Kind),
+    // The level by its number, as the walk's definition has it.
     /// The walk stopped at this entry of this level.
     #[error("{stop}, at level {level}, entry {entry}")]
     Stopped {
@@ -60,6 +61,7 @@ pub enum WalkFault {
     },
 }
 
+// By hand, as above.
 impl From<TooWide> for WalkFault {
     ghost from_gives = { λ t r. r ≡ RootTooWide t };
 

@@ -6,7 +6,7 @@ ghost use Rattle.walker.specs.Walk.{decided, look_of, step_of, walk_from, walked
 
 use crate::{Stop, WalkFault};
 use memory::{Beyond, Memory};
-use sv39::{Access, Entry, Frame, Level, entry_of, is_canonical};
+use sv39::{Access, Entry, Frame, Level, doubleword_of, entry_of, is_canonical};
 
 // Frame and level as numbers, for the walk is defined by recursion on the level's number.
 /// Where an access comes to: a frame, and the leaf that says so with its level.
@@ -146,7 +146,10 @@ pub fn walk<M: Memory>(memory: &M, root: u64, access: &Access) -> Result<Transla
         return Err(WalkFault::NotCanonical(access.kind));
     }
     let (entry, found) = descend(memory, root, access)?;
-    let place = 512 * found.frame + access.address / 8 % 512;
+    let frame = Frame {
+        number: found.frame,
+    };
+    let place = doubleword_of(frame, access.address);
     if place >= memory.size() {
         let stop = Stop::FrameBeyond(Beyond { place });
         return Err(WalkFault::Stopped {

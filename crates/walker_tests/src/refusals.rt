@@ -35,7 +35,7 @@ fn page_fault(number: u8, level: u8, entry: u64) -> Report {
         code: Some(13),
         level: Some(level),
         entry: Some(entry),
-        beyond: None,
+        ..Report::default()
     }
 }
 
@@ -43,9 +43,7 @@ fn bare(number: u8, code: Option<u8>) -> Report {
     Report {
         number,
         code,
-        level: None,
-        entry: None,
-        beyond: None,
+        ..Report::default()
     }
 }
 
@@ -138,9 +136,7 @@ fn faults_of_entries(rt: HostRuntime) -> Result<(), Fail> {
 fn faults_of_the_memory(rt: HostRuntime) -> Result<(), Fail> {
     let mut cells = [0u64; 2048];
     let far = walk(&Words::new(&mut cells), 9, &load(0));
-    let Err(fault_far) = far else {
-        return Err(Fail::new("no fault"));
-    };
+    let fault_far = far.err().ok_or_else(|| Fail::new("no fault"))?;
     let unread = Report {
         number: 38,
         code: Some(5),

@@ -1,6 +1,9 @@
-use Rattle.std.proofs.Common.{◌≡◌, Err, sym, ap, ◌∙◌, arith}
+use Rattle.std.proofs.Common.{◌≡◌, ℕ, Err, sym, ap, ◌∙◌, arith}
 use Rattle.std.proofs.lemmas.Result.{err_from_is_err_and, IfOk-from_err}
-use Rattle.walker.specs.Walk.{found, last_step, walk_from}
+use Rattle.memory.specs.Cells.{beyond}
+use Rattle.walker.specs.declared.fault.Stop.TheVariants.{FrameBeyond}
+use Rattle.walker.specs.declared.walking.Translation.{Translation}
+use Rattle.walker.specs.Walk.{found, last_step, stopped, walk_from}
 use Rattle.walker.proofs.Steps.{found_wide, found_not_canonical, found_below, last_inside, last_past}
 use Rattle.walker.proofs.walking.walk.Given.{Over}
 use Rattle.walker.proofs.walking.walk.Goals as goal
@@ -46,7 +49,8 @@ pub returns-then-place-size : goal.returns-then-place-size
 returns-then-place-size g c =
     record {
       value =
-          sym (last_past (g.M.Memory.cells c.args.memory.now) c.args.access.now c.in_ok-entry.entry c.in_ok-entry.found (omega arith))
+          ap (λ (place : ℕ). stopped {T = Translation} c.args.access.now c.in_ok-entry.found.level c.in_ok-entry.entry (FrameBeyond (beyond place))) c.doubleword_of-place.ensures
+          ∙ sym (last_past (g.M.Memory.cells c.args.memory.now) c.args.access.now c.in_ok-entry.entry c.in_ok-entry.found (omega arith))
           ∙ ap (last_step (g.M.Memory.cells c.args.memory.now) c.args.access.now) (sym c.in_ok-entry.was ∙ descended g (goal.at.returns-then-place-size g c).After-descend);
       within = tt;
     }
