@@ -1,4 +1,4 @@
-// A policy for tests: it picks by a list of numbers that it owns wherever a policy may, so that a test can force any order.
+// A policy for tests: it picks by a lent list of numbers wherever a policy may, so that a test can force any order.
 #![tactic(auto)]
 
 mod scripted;

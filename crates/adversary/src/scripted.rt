@@ -6,11 +6,11 @@ ghost use Rattle.adversary.specs.Steering.{steered_within, steered_apart};
 
 use policy::{Policy, PolicyRefusal, accept};
 
-// A list with a place in it, and no iterator: what it promises is said by the place.
+// A place in a lent list, and no iterator: what is promised is said by the place.
 /// The numbers still to be picked begin at `cursor`; past the script's end every number is 0.
-#[derive(Drop)]
-pub struct Scripted {
-    script: Vec<usize>,
+#[derive(Clone, Copy)]
+pub struct Scripted<'a> {
+    script: &'a [usize],
     cursor: usize,
     last: [Option<usize>; 8],
 }
@@ -27,10 +27,10 @@ fn steer(number: usize, last: Option<usize>) -> usize
     }
 }
 
-impl Scripted {
+impl<'a> Scripted<'a> {
     /// At the script's start, no way touched.
-    pub fn new(script: Vec<usize>) -> Scripted
-        ensures script { result.script.items ≡ script.items }
+    pub fn new(script: &'a [usize]) -> Scripted<'a>
+        ensures script { result.script.now ≡ script.now }
         ensures cursor { result.cursor ≡ 0 }
         ensures last { (h : ℕ) → h < 8 → slice_index_or result.last h None ≡ None }
     {
@@ -42,14 +42,14 @@ impl Scripted {
     }
 }
 
-impl Policy for Scripted {
+impl<'a> Policy for Scripted<'a> {
     ghost last = { λ p h. slice_index_or p.last h None };
 
-    ghost choice = { λ p h. steered (slice_index p.script.items p.cursor) (slice_index_or p.last h None) };
+    ghost choice = { λ p h. steered (slice_index p.script.now p.cursor) (slice_index_or p.last h None) };
 
-    ghost within = { λ p hart h. steered_within (slice_index p.script.items p.cursor) (slice_index_or p.last hart None) };
+    ghost within = { λ p hart h. steered_within (slice_index p.script.now p.cursor) (slice_index_or p.last hart None) };
 
-    ghost apart = { λ p hart h. steered_apart (slice_index p.script.items p.cursor) (slice_index_or p.last hart None) };
+    ghost apart = { λ p hart h. steered_apart (slice_index p.script.now p.cursor) (slice_index_or p.last hart None) };
 
     fn touch(&mut self, hart: usize, way: usize) -> Result<(), PolicyRefusal>
         ensures answer { result ≡ touch_of hart way }
@@ -65,7 +65,7 @@ impl Policy for Scripted {
     }
 
     fn pick(&mut self, hart: usize) -> Result<usize, PolicyRefusal>
-        ensures answer { result ≡ pick_of (steered (slice_index self.old.script.items self.old.cursor) (slice_index_or self.old.last hart None)) hart }
+        ensures answer { result ≡ pick_of (steered (slice_index self.old.script.now self.old.cursor) (slice_index_or self.old.last hart None)) hart }
         ensures last { (h : ℕ) → h < 8 → slice_index_or self.new.last h None ≡ slice_index_or self.old.last h None }
         ensures refused { is_err result ≡ true → self.new ≡ self.old }
         ensures script { self.new.script ≡ self.old.script }

@@ -37,9 +37,8 @@ fn fill<M: Memory, P: Policy>(rt: &impl Abort, machine: &mut Machine<M, P>) -> R
 
 #[test]
 fn the_adversary_names_the_way(rt: HostRuntime) -> Result<(), Fail> {
-    let script = [5].to_vec(rt.alloc())?;
     let mut words = [0u64; 12288];
-    let mut machine = Machine::new(Words::new(&mut words), Scripted::new(script), 1);
+    let mut machine = Machine::new(Words::new(&mut words), Scripted::new(&[5]), 1);
     fill(&rt, &mut machine)?;
     assert_eq!(rt; touch_page(&mut machine, 16)?, By::Hit);
     assert_eq!(rt; touch_page(&mut machine, 4)?, By::Hit);

@@ -5,7 +5,6 @@ use machine::{Answer, By, Call, Machine, Refusal, Unmapped};
 use memory::{Memory, Words};
 use policy::{Clock, Policy, TreePlru};
 use std::process::Abort;
-use std::test::Fail;
 use sv39::{Kind, Mode};
 use walker::Stop;
 
@@ -121,8 +120,6 @@ fn a_page_lives_under_clock(rt: HostRuntime) {
 }
 
 #[test]
-fn a_page_lives_under_the_adversary(rt: HostRuntime) -> Result<(), Fail> {
-    let script = [0, 1, 2].to_vec(rt.alloc())?;
-    lives(&rt, Scripted::new(script));
-    Ok(())
+fn a_page_lives_under_the_adversary(rt: HostRuntime) {
+    lives(&rt, Scripted::new(&[0, 1, 2]));
 }

@@ -57,7 +57,7 @@ fn clock(rt: HostRuntime) -> Result<(), Fail> {
 
 #[test]
 fn the_adversary_picks_by_its_script(rt: HostRuntime) -> Result<(), Fail> {
-    let mut policy = Scripted::new([3, 3, 20, 15].to_vec(rt.alloc())?);
+    let mut policy = Scripted::new(&[3, 3, 20, 15]);
     refuses(&rt, &mut policy);
     assert_eq!(rt; policy.pick(0), Ok(3));
     policy.touch(0, 3)?;
