@@ -1,6 +1,6 @@
 -- What is taken, and what is left, in the pool as a value.
 use Rattle.std.proofs.Common.{◌≡◌, ℕ, ◌+◌, ◌-◌, ◌<◌, ◌≤◌, true, false, cond, ltb, List, get_or, set, Some, None, sym, ap, ◌∙◌, subst, ⊎_elim, arith}
-use Rattle.std.proofs.lemmas.Bool.{cases_Bool, ltb-true, ltb-false, lt-ltb, le-ltb, cond-true, cond-false}
+use Rattle.std.proofs.lemmas.Bool.{cases_Bool, ltb-true, lt-ltb, le-ltb, cond-true, cond-false}
 use Rattle.frames.specs.declared.state.FrameState.{FrameState}
 use Rattle.frames.specs.Busy.{one}
 use Rattle.frames.specs.Frames.{Frames, stack, next_of, taken_of}
@@ -17,14 +17,6 @@ popped height x f e =
     (λ (t : ltb 0 height ≡ false).
     let r = sym (cond-false (ltb 0 height) (Some x) None t) ∙ e in
     let z : ◌≡◌ {A = ℕ} 0 1 = cc in absurd (omega arith)) (cases_Bool (ltb 0 height))
-
-pub popped_none : (height x : ℕ) → cond (ltb 0 height) (Some x) None ≡ None → height ≡ 0
-popped_none height x e =
-    ⊎_elim
-    (λ (t : ltb 0 height ≡ true).
-    let r = sym (cond-true (ltb 0 height) (Some x) None t) ∙ e in
-    let z : ◌≡◌ {A = ℕ} 0 1 = cc in absurd (omega arith))
-    (λ (t : ltb 0 height ≡ false). let l = ltb-false 0 height t in omega arith) (cases_Bool (ltb 0 height))
 
 module _ (states : List FrameState) (frames : List ℕ) (height mark limit : ℕ) (to : FrameState) where
   -- the top of the pile, as `pop` answers it: f, with the pile frames' of height' left

@@ -4,6 +4,7 @@ use Rattle.std.proofs.lemmas.Bool.{ltb-true}
 use Rattle.frames.specs.declared.state.FrameState.TheVariants as state
 use Rattle.frames.specs.Frames.{next}
 use Rattle.sv39.specs.declared.access.Access.{Access}
+use Rattle.std.proofs.lemmas.Option.{same_Some}
 use Rattle.sv39.specs.Address.{index, page, doubleword_of}
 use Rattle.tlb.specs.declared.way.Way.{Way}
 use Rattle.tlb.specs.Trying.{tried}
@@ -37,7 +38,7 @@ use Rattle.law.proofs.Good.{Good, Gives, LeafHome, Late, WayGood, Quiet, later, 
 use Rattle.law.proofs.Hits.{tried_had, serves_tells}
 use Rattle.law.proofs.Places.{in_leaf, low}
 use Rattle.law.proofs.Pools.{state_at}
-use Rattle.law.proofs.Slots.{some_same, set_holds}
+use Rattle.law.proofs.Slots.{set_holds}
 use Rattle.law.proofs.TableSteps.{stored_tables, unplaced}
 
 -- a frame that an access may reach: mapped or owed
@@ -143,7 +144,7 @@ module _ (H : History) (s : State) (g : Good H s) where
         (λ i way y.
         ⊎_elim
         (λ (p : (i ≡ slot) × (Some (way_of space (page q.address) t.frame t.leaf.flags) ≡ Some way)).
-        subst (WayGood H s.debts.slots g.at g.held hart) (some_same (way_of space (page q.address) t.frame t.leaf.flags) way p.1) (filled_way t x now))
+        subst (WayGood H s.debts.slots g.at g.held hart) (same_Some (way_of space (page q.address) t.frame t.leaf.flags) way p.1) (filled_way t x now))
         (λ (p : (i ≡ slot → ⊥) × (get_or (tried space (page q.address) q (row_of s hart)) i None ≡ Some way)). had_way i way p.1)
         (set_holds (tried space (page q.address) q (row_of s hart)) slot (Some (way_of space (page q.address) t.frame t.leaf.flags)) i way y)))
 
@@ -175,7 +176,7 @@ module _ (H : History) (s : State) (g : Good H s) where
         let lives = way_lives hart way w in
         let narrow : way.frame < 2 ^ 44 = omega (arith, lives.inside, few) in
         let same = sym (y.frame ∙ mod-eq_of_lt narrow) ∙ ap (λ (f : Found). f.frame) (ok_found _ x (answer_at _ _ _ e h)) in
-        let root_is : w.root ≡ r = some_same w.root r (sym w.rooted ∙ ap (λ (n : ℕ). root_in H n) y.space_is ∙ sym (g.roots space) ∙ rooted) in
+        let root_is : w.root ≡ r = same_Some w.root r (sym w.rooted ∙ ap (λ (n : ℕ). root_in H n) y.space_is ∙ sym (g.roots space) ∙ rooted) in
         let put : PutSince H space (page q.address) way.frame =
         subst (λ (n : ℕ). PutSince H n (page q.address) way.frame) y.space_is (subst (λ (n : ℕ). PutSince H way.of.space n way.frame) y.page_is (way_put hart way w)) in
         let seen : SeenSince (λ cells. frame_of (walked cells r q) ≡ Some way.frame) H hart space (page q.address) =

@@ -4,6 +4,7 @@ use Rattle.std.proofs.lemmas.List.{get_or-set_same, get_or-set_other}
 use Rattle.std.proofs.lemmas.Bool.{cases_Bool, cases_eq, cond-true, cond-false}
 use Rattle.debts.specs.declared.debt.Debt.{Debt}
 use Rattle.debts.specs.Debts.{Debts, room, number_at, new_debt, opened_at}
+use Rattle.std.proofs.lemmas.Option.{none-some, same_Some}
 use Rattle.frames.specs.declared.state.FrameState.TheVariants as state
 use Rattle.frames.specs.Frames.{next, turned}
 use Rattle.sv39.specs.declared.entry.Entry.{Entry}
@@ -30,7 +31,7 @@ use Rattle.law.proofs.Marks.{zero_unmarked}
 use Rattle.law.proofs.Pages.{page_by_index}
 use Rattle.law.proofs.Places.{low, Holder, in_leaf, in_debt, at_one, at_same, at_other, leaf_not_debt, leaf_same, debt_same, low_same}
 use Rattle.law.proofs.Pools.{Moves, turn_moves, is_in_from, apart_by_tag}
-use Rattle.law.proofs.Slots.{empty_at, none_not, some_same, set_holds}
+use Rattle.law.proofs.Slots.{empty_at, set_holds}
 use Rattle.law.proofs.TableSteps.{protected_tables, unmapped_tables}
 
 -- where a new debt goes is an empty slot
@@ -40,7 +41,7 @@ room_empty v n e =
     (λ (t : ltb v.next (2 ^ 32) ≡ true).
     empty_at v.slots n (sym (cond-true (ltb v.next (2 ^ 32)) (empty_slot 0 v.slots) None t) ∙ e))
     (λ (t : ltb v.next (2 ^ 32) ≡ false).
-    absurd (none_not n (sym (cond-false (ltb v.next (2 ^ 32)) (empty_slot 0 v.slots) None t) ∙ e))) (cases_Bool (ltb v.next (2 ^ 32)))
+    absurd (none-some n (sym (cond-false (ltb v.next (2 ^ 32)) (empty_slot 0 v.slots) None t) ∙ e))) (cases_Bool (ltb v.next (2 ^ 32)))
 
 module _ (H : History) (s : State) (g : Good H s) where
   leaf_of_is : (space address : ℕ) (leaf : ℕ × Entry) (tells : LeafTells s space address leaf) → Finds s.cells g.at g.held space address leaf.0 leaf.1
@@ -64,12 +65,12 @@ module _ (H : History) (s : State) (g : Good H s) where
   opened_good n d e none =
       let slot = room_empty s.debts n e in
       let other : (m : ℕ) (x : Debt) → get_or s.debts.slots m None ≡ Some x → get_or (set s.debts.slots n (Some d)) m None ≡ Some x =
-      λ m x y. get_or-set_other s.debts.slots n m (Some d) None (λ q. none_not x (sym slot.0 ∙ ap (λ (k : ℕ). get_or s.debts.slots k None) (sym q) ∙ y)) ∙ y in
+      λ m x y. get_or-set_other s.debts.slots n m (Some d) None (λ q. none-some x (sym slot.0 ∙ ap (λ (k : ℕ). get_or s.debts.slots k None) (sym q) ∙ y)) ∙ y in
       let old : (m : ℕ) (x : Debt) (f : ℕ) → get_or (set s.debts.slots n (Some d)) m None ≡ Some x → x.frame ≡ Some f → get_or s.debts.slots m None ≡ Some x =
       λ m x f y z.
       ⊎_elim
       (λ (p : (m ≡ n) × (Some d ≡ Some x)).
-      absurd (none_not f (sym none ∙ ap (λ (k : Debt). k.frame) (some_same d x p.1) ∙ z)))
+      absurd (none-some f (sym none ∙ ap (λ (k : Debt). k.frame) (same_Some d x p.1) ∙ z)))
       (λ (p : (m ≡ n → ⊥) × (get_or s.debts.slots m None ≡ Some x)). p.1) (set_holds s.debts.slots n (Some d) m x y) in
       record {
         at = g.at;
@@ -136,11 +137,11 @@ module _ (H : History) (s : State) (g : Good H s) (space address : ℕ) (leaf : 
 
     slots_are : (k : ℕ) (x : Debt) → get_or (set s.debts.slots n (Some new)) k None ≡ Some x → ((k ≡ n) × (new ≡ x)) ⊎ ((k ≡ n → ⊥) × (get_or s.debts.slots k None ≡ Some x))
     slots_are k x y =
-        ⊎_elim (λ (p : (k ≡ n) × (Some new ≡ Some x)). inl (p.0, some_same new x p.1)) (λ (p : (k ≡ n → ⊥) × (get_or s.debts.slots k None ≡ Some x)). inr p) (set_holds s.debts.slots n (Some new) k x y)
+        ⊎_elim (λ (p : (k ≡ n) × (Some new ≡ Some x)). inl (p.0, same_Some new x p.1)) (λ (p : (k ≡ n → ⊥) × (get_or s.debts.slots k None ≡ Some x)). inr p) (set_holds s.debts.slots n (Some new) k x y)
 
     old_slot : (k : ℕ) (x : Debt) → get_or s.debts.slots k None ≡ Some x → get_or (set s.debts.slots n (Some new)) k None ≡ Some x
     old_slot k x y =
-        get_or-set_other s.debts.slots n k (Some new) None (λ q. none_not x (sym (room_empty s.debts n free-slot).0 ∙ ap (λ (j : ℕ). get_or s.debts.slots j None) (sym q) ∙ y)) ∙ y
+        get_or-set_other s.debts.slots n k (Some new) None (λ q. none-some x (sym (room_empty s.debts n free-slot).0 ∙ ap (λ (j : ℕ). get_or s.debts.slots j None) (sym q) ∙ y)) ∙ y
 
     new_slot : get_or (set s.debts.slots n (Some new)) n None ≡ Some new
     new_slot = get_or-set_same s.debts.slots n (Some new) None (room_empty s.debts n free-slot).1
@@ -177,7 +178,7 @@ module _ (H : History) (s : State) (g : Good H s) (space address : ℕ) (leaf : 
           owes = λ k x h y z.
               ⊎_elim
               (λ (p : (k ≡ n) × (new ≡ x)).
-              let same : f₀ ≡ h = some_same f₀ h (ap (λ (j : Debt). j.frame) p.1 ∙ z) in
+              let same : f₀ ≡ h = same_Some f₀ h (ap (λ (j : Debt). j.frame) p.1 ∙ z) in
               ap owed_held (sym same) ∙ at_same g.held f₀ (in_debt n) ∙ ap in_debt (sym p.0))
               (λ (p : (k ≡ n → ⊥) × (get_or s.debts.slots k None ≡ Some x)).
               let old = g.owes k x h p.1 z in
@@ -201,7 +202,7 @@ module _ (H : History) (s : State) (g : Good H s) (space address : ℕ) (leaf : 
           debt_put = λ k x h y z.
               ⊎_elim
               (λ (p : (k ≡ n) × (new ≡ x)).
-              let same : f₀ ≡ h = some_same f₀ h (ap (λ (j : Debt). j.frame) p.1 ∙ z) in
+              let same : f₀ ≡ h = same_Some f₀ h (ap (λ (j : Debt). j.frame) p.1 ∙ z) in
               subst (λ (j : Debt). PutSince H j.of.space j.of.page h) p.1
               (subst (PutSince H space address) same (g.leaf_put_is f₀ t (index address 0) space (index address 2) (index address 1) address there place tells.paged refl refl refl)))
               (λ (p : (k ≡ n → ⊥) × (get_or s.debts.slots k None ≡ Some x)). g.debt_put k x h p.1 z) (slots_are k x y);

@@ -4,6 +4,7 @@ use Rattle.std.proofs.lemmas.Bool.{cases_Bool, cond-false}
 use Rattle.frames.specs.Frames.{Frames}
 use Rattle.sv39.specs.declared.access.Access.{Access}
 use Rattle.sv39.specs.declared.entry.Entry.{Entry}
+use Rattle.std.proofs.lemmas.Option.{}
 use Rattle.sv39.specs.declared.entry.Rights.{Rights}
 use Rattle.sv39.specs.Address.{index, canonical, entry_of, frame_of}
 use Rattle.sv39.specs.Layout.{unpacked}

@@ -4,6 +4,7 @@ use Rattle.std.proofs.lemmas.List.{get_or-set_same, get_or-set_other, length-set
 use Rattle.std.proofs.lemmas.Bool.{both_ways, cases_Bool, cases_eq, cond-true, cond-false, ltb-true, ne_eqb, and_left, and_right}
 use Rattle.debts.specs.declared.debt.Debt.{Debt}
 use Rattle.debts.specs.Debts.{marked_by, with_mark}
+use Rattle.std.proofs.lemmas.Option.{none-some, same_Some}
 use Rattle.debts.specs.Debts as ledger
 use Rattle.frames.specs.Frames.{next}
 use Rattle.tlb.specs.declared.way.Way.{Way}
@@ -18,18 +19,18 @@ use Rattle.law.specs.History.{Event, History, covers_page, PutSince}
 use Rattle.law.specs.Runs.{event_of}
 use Rattle.law.proofs.Good.{Good, Late, later, refused_quiet}
 use Rattle.law.proofs.Marks.{mark_other}
-use Rattle.law.proofs.Slots.{none_not, some_same, map_holds}
+use Rattle.law.proofs.Slots.{map_holds}
 
 -- what a fence makes of a slot
 module _ (hart : ℕ) (space at : Option ℕ) where
   marked_cases : (o : Option Debt) (x : Debt) → marked_by hart space at o ≡ Some x → (d : Debt) × ((o ≡ Some d) × (((ledger.covers space at d ≡ true) × (x ≡ with_mark hart d)) ⊎ ((ledger.covers space at d ≡ false) × (x ≡ d))))
-  marked_cases None x e = absurd (none_not x e)
+  marked_cases None x e = absurd (none-some x e)
   marked_cases (Some d) x e =
       ⊎_elim
       (λ (t : ledger.covers space at d ≡ true).
-      (d, (refl, inl (t, sym (some_same (with_mark hart d) x (sym (cond-true (ledger.covers space at d) (Some (with_mark hart d)) (Some d) t) ∙ e))))))
+      (d, (refl, inl (t, sym (same_Some (with_mark hart d) x (sym (cond-true (ledger.covers space at d) (Some (with_mark hart d)) (Some d) t) ∙ e))))))
       (λ (t : ledger.covers space at d ≡ false).
-      (d, (refl, inr (t, sym (some_same d x (sym (cond-false (ledger.covers space at d) (Some (with_mark hart d)) (Some d) t) ∙ e)))))) (cases_Bool (ledger.covers space at d))
+      (d, (refl, inr (t, sym (same_Some d x (sym (cond-false (ledger.covers space at d) (Some (with_mark hart d)) (Some d) t) ∙ e)))))) (cases_Bool (ledger.covers space at d))
 
   marked_is : (d : Debt) → ((ledger.covers space at d ≡ true) × (marked_by hart space at (Some d) ≡ Some (with_mark hart d))) ⊎ ((ledger.covers space at d ≡ false) × (marked_by hart space at (Some d) ≡ Some d))
   marked_is d =
@@ -37,12 +38,12 @@ module _ (hart : ℕ) (space at : Option ℕ) where
       (λ (t : ledger.covers space at d ≡ false). inr (t, cond-false (ledger.covers space at d) (Some (with_mark hart d)) (Some d) t)) (cases_Bool (ledger.covers space at d))
 
   spared_cases : (o : Option Way) (way : Way) → spared space at o ≡ Some way → (o ≡ Some way) × (covers space at way ≡ false)
-  spared_cases None way e = absurd (none_not way e)
+  spared_cases None way e = absurd (none-some way e)
   spared_cases (Some x) way e =
       ⊎_elim
-      (λ (t : covers space at x ≡ true). absurd (none_not way (sym (cond-true (covers space at x) None (Some x) t) ∙ e)))
+      (λ (t : covers space at x ≡ true). absurd (none-some way (sym (cond-true (covers space at x) None (Some x) t) ∙ e)))
       (λ (t : covers space at x ≡ false).
-      let same = some_same x way (sym (cond-false (covers space at x) None (Some x) t) ∙ e) in
+      let same = same_Some x way (sym (cond-false (covers space at x) None (Some x) t) ∙ e) in
       (ap Some same, ap (covers space at) (sym same) ∙ t)) (cases_Bool (covers space at x))
 
 module _ (H : History) (s : State) (g : Good H s) (hart : ℕ) (space address : Option ℕ) (at : Option ℕ) (pages : fence_page address ≡ Some at) (l : hart < s.count) (n : ℕ) where

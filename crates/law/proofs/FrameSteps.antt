@@ -4,6 +4,7 @@ use Rattle.std.proofs.lemmas.List.{get_or-set_same, get_or-set_other}
 use Rattle.std.proofs.lemmas.Bool.{cases_eq, cond-true, eq-eqb, ne_eqb}
 use Rattle.frames.specs.declared.state.FrameState.TheVariants as state
 use Rattle.frames.specs.Frames.{Frames, next, taken, is_in, released}
+use Rattle.std.proofs.lemmas.Option.{none-some}
 use Rattle.sv39.specs.Address.{index}
 use Rattle.tables.specs.Tables.{cleared}
 use Rattle.tlb.specs.Slots.{empty_slot}
@@ -18,7 +19,7 @@ use Rattle.law.specs.Runs.{event_of}
 use Rattle.law.proofs.Good.{Good, later, moved, refused_quiet}
 use Rattle.law.proofs.Places.{Place, root, Standing, at_one, at_other}
 use Rattle.law.proofs.Pools.{Moves, take_moves, free_moves, apart_by_tag}
-use Rattle.law.proofs.Slots.{empty_at, none_not}
+use Rattle.law.proofs.Slots.{empty_at}
 use Rattle.law.proofs.TableSteps.{granted_tables, backed_tables, space_tables, unplaced}
 
 module _ (H : History) (s : State) (g : Good H s) (choice : ℕ → ℕ) where
@@ -61,7 +62,7 @@ module _ (H : History) (s : State) (g : Good H s) (choice : ℕ → ℕ) where
           let other : (sp : ℕ) → (sp ≡ n → ⊥) → root_in (record { call = Space; answer = Ok (answer.Space n); cells = s.cells; next = Some f } ∷ H) sp ≡ root_in H sp =
           λ sp ne. ap (λ (b : Bool). or_else (cond b (Some f) None) (root_in H sp)) (ne_eqb n sp (λ q. ne (sym q))) in
           let old_root : (sp r : ℕ) → root_in H sp ≡ Some r → sp ≡ n → ⊥ =
-          λ sp r y q. none_not r (sym slot.0 ∙ ap (λ (k : ℕ). get_or s.roots k None) (sym q) ∙ g.roots sp ∙ y) in
+          λ sp r y q. none-some r (sym slot.0 ∙ ap (λ (k : ℕ). get_or s.roots k None) (sym q) ∙ g.roots sp ∙ y) in
           record {
             at = at';
             held = g.held;
@@ -96,5 +97,5 @@ module _ (H : History) (s : State) (g : Good H s) (choice : ℕ → ℕ) where
                 (λ (ne : sp ≡ n → ⊥). get_or-set_other s.roots n sp (Some f) None ne ∙ g.roots sp ∙ sym (other sp ne)) (cases_eq sp n);
             stands = λ h sp l y.
                 let r = g.stands h sp l y in
-                (r.0, get_or-set_other s.roots n sp (Some f) None (λ q. none_not r.0 (sym slot.0 ∙ ap (λ (k : ℕ). get_or s.roots k None) (sym q) ∙ r.1)) ∙ r.1);
+                (r.0, get_or-set_other s.roots n sp (Some f) None (λ q. none-some r.0 (sym slot.0 ∙ ap (λ (k : ℕ). get_or s.roots k None) (sym q) ∙ r.1)) ∙ r.1);
           }

@@ -4,6 +4,7 @@ use Rattle.std.proofs.lemmas.List.{get_or-set_same, get_or-set_other, length-set
 use Rattle.std.proofs.lemmas.Bool.{cases_eq, ltb-true, eq-eqb, ne_eqb}
 use Rattle.frames.specs.Frames.{next}
 use Rattle.machine.specs.declared.call.Answer.TheVariants as answer
+use Rattle.std.proofs.lemmas.Option.{same_Some}
 use Rattle.machine.specs.declared.call.Call.TheVariants.{Enter, Status}
 use Rattle.machine.specs.declared.hart.Hart.{Hart}
 use Rattle.machine.specs.declared.refusal.Refusal.{Refusal}
@@ -14,7 +15,6 @@ use Rattle.machine.specs.State.{State, is_hart, hart_of, root_of, outside}
 use Rattle.law.specs.History.{History, or_else, space_in, status_by, status_in, last_set}
 use Rattle.law.specs.Runs.{event_of}
 use Rattle.law.proofs.Good.{Good, later, refused_quiet}
-use Rattle.law.proofs.Slots.{some_same}
 
 -- A hart is set otherwise, by an event that is about that hart alone.
 module _ (H : History) (s : State) (g : Good H s) (hart : ℕ) (l : hart < s.count) (to : Hart) where
@@ -65,7 +65,7 @@ module _ (H : History) (s : State) (g : Good H s) (choice : ℕ → ℕ) (hart :
         stands = λ h sp c e.
             ⊎_elim
             (λ (q : h ≡ hart).
-            let same : space ≡ sp = some_same space sp (sym (at_hart H s g hart l to (λ (x : Hart). x.space) (Some space) h q refl) ∙ e) in
+            let same : space ≡ sp = same_Some space sp (sym (at_hart H s g hart l to (λ (x : Hart). x.space) (Some space) h q refl) ∙ e) in
             (root, ap (root_of s) (sym same) ∙ r))
             (λ (ne : h ≡ hart → ⊥). g.stands h sp c (ap (λ (x : Hart). x.space) (sym (is_kept H s g hart l to h ne)) ∙ e)) (cases_eq h hart);
       }

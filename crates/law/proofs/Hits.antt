@@ -4,6 +4,7 @@ use Rattle.std.proofs.lemmas.Bool.{cases_Bool, cond-true, cond-false, and_parts,
 use Rattle.sv39.specs.declared.access.Access.{Access}
 use Rattle.sv39.specs.declared.access.Kind.{Kind}
 use Rattle.sv39.specs.declared.access.Kind.TheVariants.{Fetch, Load, Store}
+use Rattle.std.proofs.lemmas.Option.{none-some, same_Some}
 use Rattle.sv39.specs.declared.access.Mode.{Mode}
 use Rattle.sv39.specs.declared.access.Mode.TheVariants.{User, Supervisor}
 use Rattle.sv39.specs.declared.entry.Flags.{Flags}
@@ -12,11 +13,11 @@ use Rattle.tlb.specs.declared.way.Way.{Way}
 use Rattle.tlb.specs.Rows.{found}
 use Rattle.tlb.specs.Trying.{served_by, served_at, served, tried_by, tried_at, tried}
 use Rattle.tlb.specs.Ways.{speaks_for, serves, flags_of, way_of}
-use Rattle.law.proofs.Slots.{none_not, some_same, set_holds}
+use Rattle.law.proofs.Slots.{set_holds}
 
 -- a way that was found is for the page
 found_for : (space page i : ℕ) (ways : List (Option Way)) (n : ℕ) → found space page i ways ≡ Some n → (k : ℕ) × ((n ≡ i + k) × ((way : Way) × ((get_or ways k None ≡ Some way) × (speaks_for way space page ≡ true))))
-found_for space page i [] n e = absurd (none_not n e)
+found_for space page i [] n e = absurd (none-some n e)
 found_for space page i (None ∷ ways) n e =
     let r = found_for space page (i + 1) ways n e in
     (suc r.0, (omega (arith, r.1.0), r.1.1))
@@ -24,7 +25,7 @@ found_for space page i (Some x ∷ ways) n e =
     let more : found space page (i + 1) ways ≡ Some n → (k : ℕ) × ((n ≡ i + 1 + k) × ((way : Way) × ((get_or ways k None ≡ Some way) × (speaks_for way space page ≡ true)))) = found_for space page (i + 1) ways n in
     ⊎_elim
     (λ (t : speaks_for x space page ≡ true).
-    let q : i ≡ n = some_same i n (sym (cond-true (speaks_for x space page) (Some i) (found space page (i + 1) ways) t) ∙ e) in
+    let q : i ≡ n = same_Some i n (sym (cond-true (speaks_for x space page) (Some i) (found space page (i + 1) ways) t) ∙ e) in
     (0, (omega arith, (x, (refl, t)))))
     (λ (t : speaks_for x space page ≡ false).
     let r = more (sym (cond-false (speaks_for x space page) (Some i) (found space page (i + 1) ways) t) ∙ e) in
@@ -49,7 +50,7 @@ module _ (space page : ℕ) (q : Access) (ways : List (Option Way)) where
       let served_way : cond (serves way q) (Some (i, way.frame % 2 ^ 44)) None ≡ Some hit = sym (ap (served_by q i) there) ∙ h in
       ⊎_elim
       (λ (t : serves way q ≡ true).
-      let same : ◌≡◌ {A = ℕ × ℕ} (i, way.frame % 2 ^ 44) hit = some_same (i, way.frame % 2 ^ 44) hit (sym (cond-true (serves way q) (Some (i, way.frame % 2 ^ 44)) None t) ∙ served_way) in
+      let same : ◌≡◌ {A = ℕ × ℕ} (i, way.frame % 2 ^ 44) hit = same_Some (i, way.frame % 2 ^ 44) hit (sym (cond-true (serves way q) (Some (i, way.frame % 2 ^ 44)) None t) ∙ served_way) in
       record {
         way = way;
         there = ap (λ (x : ℕ × ℕ). get_or ways x.0 None) (sym same) ∙ there;
@@ -59,10 +60,10 @@ module _ (space page : ℕ) (q : Access) (ways : List (Option Way)) where
         frame = ap (λ (x : ℕ × ℕ). x.1) (sym same);
       })
       (λ (t : serves way q ≡ false).
-      absurd (none_not hit (sym (cond-false (serves way q) (Some (i, way.frame % 2 ^ 44)) None t) ∙ served_way))) (cases_Bool (serves way q))
+      absurd (none-some hit (sym (cond-false (serves way q) (Some (i, way.frame % 2 ^ 44)) None t) ∙ served_way))) (cases_Bool (serves way q))
 
   served_by_is : (o : Option ℕ) (hit : ℕ × ℕ) → found space page 0 ways ≡ o → served_at q ways o ≡ Some hit → Hit space page q ways hit
-  served_by_is None hit e h = absurd (none_not hit h)
+  served_by_is None hit e h = absurd (none-some hit h)
   served_by_is (Some i) hit e h = hit_by i hit e h
 
   pub served_hit : (hit : ℕ × ℕ) → served space page q ways ≡ Some hit → Hit space page q ways hit
@@ -74,7 +75,7 @@ module _ (space page : ℕ) (q : Access) (ways : List (Option Way)) where
   tried_by_is i (Some x) j way e =
       ⊎_elim (λ (t : serves x q ≡ true). ap (λ (ws : List (Option Way)). get_or ws j None) (sym (cond-true (serves x q) ways (set ways i None) t)) ∙ e)
       (λ (t : serves x q ≡ false).
-      ⊎_elim (λ (p : (j ≡ i) × (None ≡ Some way)). absurd (none_not way p.1)) (λ (p : (j ≡ i → ⊥) × (get_or ways j None ≡ Some way)). p.1)
+      ⊎_elim (λ (p : (j ≡ i) × (None ≡ Some way)). absurd (none-some way p.1)) (λ (p : (j ≡ i → ⊥) × (get_or ways j None ≡ Some way)). p.1)
       (set_holds ways i None j way (ap (λ (ws : List (Option Way)). get_or ws j None) (sym (cond-false (serves x q) ways (set ways i None) t)) ∙ e))) (cases_Bool (serves x q))
 
   tried_at_is : (o : Option ℕ) (j : ℕ) (way : Way) → get_or (tried_at q ways o) j None ≡ Some way → get_or ways j None ≡ Some way

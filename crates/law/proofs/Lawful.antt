@@ -4,6 +4,7 @@ use lib.ListN.{length-replicate}
 use Rattle.frames.specs.declared.state.FrameState.TheVariants.{Free}
 use Rattle.frames.proofs.Counting.{all_free}
 use Rattle.tlb.specs.declared.way.Way.{Way}
+use Rattle.std.proofs.lemmas.Option.{none-some}
 use Rattle.tlb.specs.Harts.{row_at}
 use Rattle.machine.specs.declared.call.Call.{Call}
 use Rattle.machine.specs.declared.call.Call.TheVariants.{Space, Grant, Back, Map, Protect, Unmap, Enter, Status, Access, Fence, Settle}
@@ -22,7 +23,6 @@ use Rattle.law.proofs.HartSteps.{enter_good, status_good}
 use Rattle.law.proofs.MapStep.{map_good}
 use Rattle.law.proofs.Places.{none, nowhere, nowhere_not_leaf, nowhere_not_debt}
 use Rattle.law.proofs.SettleStep.{settle_good}
-use Rattle.law.proofs.Slots.{none_not}
 
 -- where everything is the same, so is each
 same_at : {A : Type 0} (n : ℕ) (x : A) (i : ℕ) → get_or (replicate n x) i x ≡ x
@@ -52,23 +52,23 @@ fresh_good cells last harts =
           record {
             room = omega arith;
             placed = λ t s. absurd s;
-            rooted = λ s r e. absurd (none_not r (sym (same_at 8 None s) ∙ e));
+            rooted = λ s r e. absurd (none-some r (sym (same_at 8 None s) ∙ e));
             fits = λ t i h. tt;
             mapped = λ f t k e. absurd (nowhere_not_leaf t k e);
             owed = λ f n e. absurd (nowhere_not_debt n e);
           };
       housed = λ f t k e. absurd (nowhere_not_leaf t k e);
       enough = (omega arith, omega arith);
-      owes = λ n d f e x. absurd (none_not d (sym (same_at 64 None n) ∙ e));
+      owes = λ n d f e x. absurd (none-some d (sym (same_at 64 None n) ∙ e));
       owed_by = λ f n e. absurd (nowhere_not_debt n e);
-      ways = λ h i way e. absurd (none_not way (sym (row_empty 8 h i) ∙ e));
+      ways = λ h i way e. absurd (none-some way (sym (row_empty 8 h i) ∙ e));
       unmade = λ h i l. row_empty 8 h i;
       leaf_put_is = λ f t k sp i j p e. absurd (nowhere_not_leaf t k e);
-      debt_put = λ n d f e x. absurd (none_not d (sym (same_at 64 None n) ∙ e));
+      debt_put = λ n d f e x. absurd (none-some d (sym (same_at 64 None n) ∙ e));
       spaces = λ h l. ap (λ (x : Hart). x.space) (same_at 8 outside h);
       status = λ h l. ap (λ (x : Hart). (x.sum, x.mxr)) (same_at 8 outside h);
       roots = λ sp. same_at 8 None sp;
-      stands = λ h sp l e. absurd (none_not sp (sym (ap (λ (x : Hart). x.space) (same_at 8 outside h)) ∙ e));
+      stands = λ h sp l e. absurd (none-some sp (sym (ap (λ (x : Hart). x.space) (same_at 8 outside h)) ∙ e));
     }
 
 module _ (H : History) (s : State) (g : Good H s) (choice : ℕ → ℕ) where

@@ -4,9 +4,9 @@ use native.Mathlib.Nat.{zero-div, div-eq_of_lt, mul-mod_left}
 use lib.Bits.{bit_or, or_shr, or_mod, or_zero_r}
 use lib.Pow.{pow-lt, shl-shr}
 use Rattle.std.proofs.lemmas.Bool.{cases_Bool, cases_lt, cond-true, cond-false}
+use Rattle.std.proofs.lemmas.Option.{none-some}
 use Rattle.sv39.specs.Layout.{bit}
 use Rattle.debts.specs.Debts.{unmarked_from, lowest_unmarked}
-use Rattle.law.proofs.Slots.{none_not}
 
 pub zero_unmarked : (h : ℕ) → bit 0 h ≡ false
 zero_unmarked h = ap (λ (n : ℕ). eqb (n % 2) 1) (zero-div (2 ^ h))
@@ -39,7 +39,7 @@ all_from marks i (suc n) k e l u =
     ⊎_elim (λ (l' : k < i + 1). let q : i ≡ k = omega arith in ap (bit marks) (sym q) ∙ t)
     (λ (l' : i + 1 ≤ k). more r l' (omega arith)) (cases_lt k (i + 1)))
     (λ (t : bit marks i ≡ false).
-    absurd (none_not i (sym (sym (cond-false (bit marks i) (unmarked_from marks (i + 1) n) (Some i) t) ∙ e)))) (cases_Bool (bit marks i))
+    absurd (none-some i (sym (sym (cond-false (bit marks i) (unmarked_from marks (i + 1) n) (Some i) t) ∙ e)))) (cases_Bool (bit marks i))
 
 pub all_marked : (marks count k : ℕ) → lowest_unmarked marks count ≡ None → k < count → bit marks k ≡ true
 all_marked marks count k e l = all_from marks 0 count k e (omega arith) (omega arith)

@@ -4,6 +4,7 @@ use Rattle.std.proofs.lemmas.List.{get_or-set_other}
 use Rattle.std.proofs.lemmas.Bool.{both_ways, cases_eq, cases_lt, ne_eqb}
 use Rattle.debts.specs.declared.debt.Debt.{Debt}
 use Rattle.debts.specs.Debts.{Debts, open_debt, lowest_unmarked, settle_at, closed_at, closed_by, settled}
+use Rattle.std.proofs.lemmas.Option.{none-some, same_Some}
 use Rattle.debts.specs.Debts as ledger
 use Rattle.frames.specs.declared.state.FrameState.TheVariants as state
 use Rattle.frames.specs.Frames.{Frames, next, freed}
@@ -22,14 +23,14 @@ use Rattle.law.proofs.Good.{Good, LeafHome, Late, later, refused_quiet}
 use Rattle.law.proofs.Marks.{all_marked}
 use Rattle.law.proofs.Places.{Holder, nowhere, in_leaf, in_debt, at_one, at_same, at_other, nowhere_not_leaf, nowhere_not_debt, leaf_not_debt, debt_same}
 use Rattle.law.proofs.Pools.{Moves, free_moves, is_in_from, apart_by_tag}
-use Rattle.law.proofs.Slots.{none_not, some_same, set_holds, open_at}
+use Rattle.law.proofs.Slots.{set_holds, open_at}
 use Rattle.law.proofs.TableSteps.{released_tables}
 
 -- what a list of slots holds once one is emptied
 module _ (slots : List (Option Debt)) (i : ℕ) where
   emptied_holds : (k : ℕ) (x : Debt) → get_or (set slots i None) k None ≡ Some x → (k ≡ i → ⊥) × (get_or slots k None ≡ Some x)
   emptied_holds k x y =
-      ⊎_elim (λ (p : (k ≡ i) × (None ≡ Some x)). absurd (none_not x p.1)) (λ (p : (k ≡ i → ⊥) × (get_or slots k None ≡ Some x)). p) (set_holds slots i None k x y)
+      ⊎_elim (λ (p : (k ≡ i) × (None ≡ Some x)). absurd (none-some x p.1)) (λ (p : (k ≡ i → ⊥) × (get_or slots k None ≡ Some x)). p) (set_holds slots i None k x y)
 
   still_holds : (k : ℕ) (x : Debt) → (k ≡ i → ⊥) → get_or slots k None ≡ Some x → get_or (set slots i None) k None ≡ Some x
   still_holds k x ne y = get_or-set_other slots i k None None ne ∙ y
@@ -39,13 +40,13 @@ closed s i = record { slots = set s.debts.slots i None; next = s.debts.next }
 
 module _ (H : History) (s : State) (g : Good H s) (i : ℕ) (d : Debt) (there : get_or s.debts.slots i None ≡ Some d) where
   same_debt : (k : ℕ) (x : Debt) → get_or s.debts.slots k None ≡ Some x → k ≡ i → x ≡ d
-  same_debt k x y q = some_same x d (sym y ∙ ap (λ (j : ℕ). get_or s.debts.slots j None) q ∙ there)
+  same_debt k x y q = same_Some x d (sym y ∙ ap (λ (j : ℕ). get_or s.debts.slots j None) q ∙ there)
 
   -- a debt that owes no frame is closed
   pub closed_good : d.frame ≡ None → Good H (with_settled s s.frames (closed s i))
   closed_good none =
       let apart : (k : ℕ) (x : Debt) (f : ℕ) → get_or s.debts.slots k None ≡ Some x → x.frame ≡ Some f → k ≡ i → ⊥ =
-      λ k x f y z q. none_not f (sym none ∙ ap (λ (j : Debt). j.frame) (sym (same_debt k x y q)) ∙ z) in
+      λ k x f y z q. none-some f (sym none ∙ ap (λ (j : Debt). j.frame) (sym (same_debt k x y q)) ∙ z) in
       record {
         at = g.at;
         held = g.held;
@@ -102,7 +103,7 @@ module _ (H : History) (s : State) (g : Good H s) (i : ℕ) (d : Debt) (there : 
         ⊎_elim
         (λ (l : h < s.count).
         both_ways (bit d.marks h) (ap (λ (z : Debt). bit z.marks h) (sym same) ∙ y.late) (all_marked d.marks s.count h marked l))
-        (λ (l : s.count ≤ h). none_not way (sym (g.unmade h j l) ∙ x)) (cases_lt h s.count)) (g.ways h j way x).home
+        (λ (l : s.count ≤ h). none-some way (sym (g.unmade h j l) ∙ x)) (cases_lt h s.count)) (g.ways h j way x).home
 
     pub released_good : (v' : Frames) → Moves s.frames v' f state.Owed state.Free → Good (ev ∷ H) (with_settled s v' (closed s i))
     released_good v' m =
@@ -126,7 +127,7 @@ module _ (H : History) (s : State) (g : Good H s) (i : ℕ) (d : Debt) (there : 
               let r = g.owed_by h k (sym (at_other g.held f nowhere h ne) ∙ e) in (
                 r.0,
                 (
-                  still_holds s.debts.slots i k r.0 (λ q. ne (some_same h f (sym r.1.1 ∙ ap (λ (z : Debt). z.frame) (same_debt k r.0 r.1.0 q) ∙ frame))) r.1.0,
+                  still_holds s.debts.slots i k r.0 (λ q. ne (same_Some h f (sym r.1.1 ∙ ap (λ (z : Debt). z.frame) (same_debt k r.0 r.1.0 q) ∙ frame))) r.1.0,
                   r.1.1,
                 ),
               )) (cases_eq h f);
@@ -137,7 +138,7 @@ module _ (H : History) (s : State) (g : Good H s) (i : ℕ) (d : Debt) (there : 
                 paged = w.paged;
                 home =
                     ⊎_elim (λ y. inl (record { table = y.table; there = at_other g.held f nowhere way.frame ne ∙ y.there; place = y.place }))
-                    (λ y. inr (record { slot = y.slot; debt = y.debt; there = at_other g.held f nowhere way.frame ne ∙ y.there; open_in = still_holds s.debts.slots i y.slot y.debt (λ q. ne (some_same way.frame f (sym y.frame ∙ ap (λ (z : Debt). z.frame) (same_debt y.slot y.debt y.open_in q) ∙ frame))) y.open_in; space = y.space; at_page = y.at_page; frame = y.frame; late = y.late }))
+                    (λ y. inr (record { slot = y.slot; debt = y.debt; there = at_other g.held f nowhere way.frame ne ∙ y.there; open_in = still_holds s.debts.slots i y.slot y.debt (λ q. ne (same_Some way.frame f (sym y.frame ∙ ap (λ (z : Debt). z.frame) (same_debt y.slot y.debt y.open_in q) ∙ frame))) y.open_in; space = y.space; at_page = y.at_page; frame = y.frame; late = y.late }))
                     w.home;
                 root = w.root;
                 rooted = w.rooted;

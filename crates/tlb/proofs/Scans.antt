@@ -1,7 +1,7 @@
 -- Going through a row way by way.
-use Rattle.std.proofs.Common.{◌≡◌, ℕ, ◌+◌, ◌-◌, ◌<◌, ◌≤◌, Bool, true, false, cond, List, [], ◌∷◌, ◌++◌, length, get_or, take, drop, set, Some, None, Option, sym, refl, ap, ◌∙◌, arith}
+use Rattle.std.proofs.Common.{◌≡◌, ℕ, ◌+◌, ◌-◌, ◌<◌, Bool, true, false, cond, List, [], ◌∷◌, ◌++◌, length, get_or, take, drop, set, Some, None, Option, sym, refl, ap, ◌∙◌, arith}
 use Rattle.std.proofs.lemmas.List.Edits.{map_over_more}
-use Rattle.std.proofs.lemmas.List.{take_more, take_all, drop_all, set-get_or, append-nil, length-take-le, length-map, get_or-append_right, get_or-drop, get_or_default}
+use Rattle.std.proofs.lemmas.List.{take_more, set-get_or, length-take-le, length-map, get_or-append_right, get_or-drop, get_or_default}
 use Rattle.std.proofs.lemmas.List.Sums.{sum_by_push}
 use Rattle.std.proofs.lemmas.Bool.{cond-true, cond-false}
 use Rattle.tlb.specs.declared.way.Way.{Way}
@@ -66,13 +66,6 @@ module _ (space page : Option ℕ) (xs ys : List (Option Way)) (i : ℕ) (inside
     sym (unchanged (get_or ys i None) refl) ∙ ap (set ys i) (sym (spared_other (get_or ys i None) e)) ∙ fenced_more (get_or ys i None) refl,
     emptied_more (get_or ys i None) refl ∙ ap (λ (n : ℕ). emptied space page (take i xs) + n) (ap (λ (b : Bool). cond b 1 0) e),
   )
-
-pub fenced_all : (space page : Option ℕ) (xs : List (Option Way)) (i : ℕ) → length xs ≤ i → fenced space page (take i xs) ++ drop i xs ≡ fenced space page xs
-fenced_all space page xs i h =
-    ap (λ (zs : List (Option Way)). fenced space page (take i xs) ++ zs) (drop_all i xs h) ∙ append-nil (fenced space page (take i xs)) ∙ ap (fenced space page) (take_all i xs h)
-
-pub emptied_all : (space page : Option ℕ) (xs : List (Option Way)) (i : ℕ) → length xs ≤ i → emptied space page (take i xs) ≡ emptied space page xs
-emptied_all space page xs i h = ap (emptied space page) (take_all i xs h)
 
 -- the way for a page is one of the row's
 pub found_within : (space page i : ℕ) (ways : List (Option Way)) (k : ℕ) → found space page i ways ≡ Some k → k < i + length ways
