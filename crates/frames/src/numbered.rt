@@ -15,6 +15,7 @@ impl Pool {
         self.live().get(frame as usize).copied()
     }
 
+    // No `then_some`: the cast asks for what the test says.
     /// A number as that of a frame of the pool in this state.
     pub fn find(&self, frame: u64, state: FrameState) -> Option<u16>
         ensures { result ≡ (if is_in (frames_of self.now) frame state then Some frame else None) }

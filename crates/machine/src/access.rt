@@ -92,6 +92,7 @@ fn touch<P: Policy>(policy: &mut P, hart: HartId, way: usize)
     let _ = policy.touch(hart.number, way);
 }
 
+// No `unwrap_or_else`: what a closure picked is not known after it.
 /// The way of a hart to fill: the lowest empty one, else the policy's pick.
 fn slot_of<P: Policy>(policy: &mut P, rows: &Rows, hart: HartId) -> usize
     ensures way { result ≡ slot_of (P.Policy.choice policy.old hart.number) (empty_slot 0 (row_at (rows_of rows.now) hart.number)) }

@@ -21,6 +21,7 @@ pub fn no(call: Call, refusal: Refusal) -> Told {
     }
 }
 
+// Runtime and machine come apart, as a test has them.
 /// Makes the calls in their order and compares each answer.
 pub fn expect<M: Memory, P: Policy>(rt: &impl Abort, machine: &mut Machine<M, P>, lines: &[Told]) {
     for line in lines {
