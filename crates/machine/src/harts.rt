@@ -11,6 +11,7 @@ use frames::Use;
 use memory::Memory;
 use policy::Policy;
 
+// Space and address, SUM and MXR come as the caller names them.
 impl<M: Memory, P: Policy> Machine<M, P> {
     /// Puts a hart into a space. Refuses 10, 11.
     pub fn enter(&mut self, hart: usize, space: usize) -> Result<(), Refusal>

@@ -94,7 +94,7 @@ pub enum Refusal {
     Fault(HartFault),
 }
 
-// By hand, as above; and flat, so that a caller meets each of the machine's numbers in one `match`.
+// By hand, as above; and flat, so that a caller meets each refusal that is no fault in one `match`.
 impl From<Unsettled> for Refusal {
     ghost from_gives = { λ u r. r ≡ unsettled u };
 

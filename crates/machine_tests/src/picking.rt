@@ -23,6 +23,7 @@ fn touch_page<M: Memory, P: Policy>(machine: &mut Machine<M, P>, page: u64) -> R
     Ok(machine.access(0, &request)?.by)
 }
 
+// Runtime and machine come apart, as a test has them.
 /// Maps seventeen pages and reads each: sixteen ways are filled, and the seventeenth page takes a way by the policy.
 fn fill<M: Memory, P: Policy>(rt: &impl Abort, machine: &mut Machine<M, P>) -> Result<(), Fail> {
     machine.space()?;

@@ -57,6 +57,7 @@ fn spaces_run_out(rt: HostRuntime) {
     expect(&rt, &mut machine, &[no(Call::Space, Refusal::SpacesFull)]);
 }
 
+// Runtime and machine come apart, as a test has them.
 /// A page at 0x1000 of space 0, which hart 0 is in.
 fn page<M: Memory, P: Policy>(rt: &impl Abort, machine: &mut Machine<M, P>) {
     let lines = [

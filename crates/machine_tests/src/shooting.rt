@@ -8,6 +8,7 @@ use std::process::Abort;
 use sv39::{Kind, Mode};
 use walker::Stop;
 
+// Here and below runtime and machine come apart, as a test has them.
 /// Frame 0 is the root, 1 the page, 2 and 3 the tables of levels 1 and 0.
 fn mapped<M: Memory, P: Policy>(rt: &impl Abort, machine: &mut Machine<M, P>) {
     let lines = [
