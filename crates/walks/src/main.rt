@@ -68,10 +68,7 @@ fn follow(heap: Global, board: &mut Board, line: &str) -> anyhow::Result<Option<
         Some("case") => {
             let case = Case::parse(&mut words).context("a case that does not fit")?;
             let answer = board.run(&case);
-            return Ok(Some(Outcome {
-                number: case.number,
-                answer,
-            }));
+            return Ok(Some(Outcome::new(case.number, answer)));
         }
         _ => return Err(anyhow!("a line that is no memory, words or case")),
     }

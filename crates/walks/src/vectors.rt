@@ -1,4 +1,7 @@
 // The words of a vector file, and what is printed of a walk.
+ghost use Rattle.std.specs.Prelude.{◌≡◌};
+ghost use Rattle.walks.specs.Outcomes.{outcome_of};
+
 use std::fmt;
 use std::str::Split;
 use sv39::{Access, Kind, Mode};
@@ -74,11 +77,33 @@ fn bit_of(word: &str) -> Option<bool> {
     }
 }
 
+/// Where a walk came to, as a vector file has it: the leaf is its doubleword.
+#[derive(Clone, Copy)]
+pub struct Found {
+    pub frame: u64,
+    pub level: u8,
+    pub leaf: u64,
+}
+
 /// What the walk of a case came to.
 #[derive(Clone, Copy)]
 pub struct Outcome {
     pub number: u64,
-    pub answer: Result<Translation, WalkFault>,
+    pub answer: Result<Found, WalkFault>,
+}
+
+impl Outcome {
+    pub fn new(number: u64, answer: Result<Translation, WalkFault>) -> Outcome
+        ensures number { result.number ≡ number }
+        ensures answer { result.answer ≡ outcome_of answer }
+    {
+        let answer = answer.map(|t| Found {
+            frame: t.frame,
+            level: t.level,
+            leaf: t.leaf.pack(),
+        });
+        Outcome { number, answer }
+    }
 }
 
 // `telling` shows such a number too: a crate for these lines would be no plainer.
@@ -99,12 +124,7 @@ impl fmt::Display for Outcome {
     fn fmt<W: fmt::Write>(&self, f: &mut fmt::Formatter<W>) -> fmt::Result {
         let case = self.number;
         match self.answer {
-            Ok(found) => {
-                let frame = found.frame;
-                let level = found.level;
-                let leaf = found.leaf.pack();
-                write!(f, "{case} ok {frame} {level} {leaf:#x}")
-            }
+            Ok(Found { frame, level, leaf }) => { write!(f, "{case} ok {frame} {level} {leaf:#x}") }
             Err(fault) => {
                 let report = fault.report();
                 let number = report.number;
