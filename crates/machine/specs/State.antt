@@ -8,6 +8,7 @@ use Rattle.tlb.specs.declared.way.Way.{Way}
 use Rattle.tlb.specs.Harts.{rows_of, row_at}
 use Rattle.machine.specs.declared.hart.Hart.{Hart}
 use Rattle.machine.specs.declared.hart.Core.{Core}
+use Rattle.machine.specs.declared.machine.Machine.{Machine}
 
 -- The memory's list of doublewords; the frames; the root of each space; the debts; of each hart what it is set to and
 -- its ways; how many harts were made; and of each hart the way that its policy touched last.
@@ -29,11 +30,9 @@ abbrev pub core_state : List ℕ → (ℕ → Option ℕ) → Core → State
 core_state cells last core =
     record { cells = cells; frames = frames_of core.pool; roots = core.roots; debts = debts_of core.debts; harts = core.harts; rows = rows_of core.rows; count = core.count; last = eight last }
 
--- a machine as a value: its memory, its policy, and the state that these and its own parts mean
-pub record Whole (M P : Type 0) : Type 0 where
-  pub memory : M
-  pub policy : P
-  pub state : State
+-- the state of a machine, by what its memory means and the way that its policy touched last
+abbrev pub state_of : {M P : Type 0} → (M → List ℕ) → (P → ℕ → Option ℕ) → Machine M P → State
+state_of cells last m = core_state (cells m.memory) (last m.policy) m.core
 
 -- a hart in no space, SUM and MXR clear
 abbrev pub outside : Hart

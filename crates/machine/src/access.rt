@@ -3,7 +3,7 @@ ghost use Rattle.std.specs.Prelude.{◌≡◌, ◌^◌, ◌<◌, IfOk, Some, sli
 ghost use Rattle.tlb.specs.Harts.{rows_of, row_at};
 ghost use Rattle.tlb.specs.Slots.{empty_slot};
 ghost use Rattle.machine.specs.Accesses.{kind_of, access_of, slot_of, word_of, stored, find_step, filled, access_step};
-ghost use Rattle.machine.specs.State.{eight, row_of, Did};
+ghost use Rattle.machine.specs.State.{eight, row_of, state_of, Did};
 
 use crate::asking::page_in;
 use crate::hart::Hart;
@@ -122,7 +122,7 @@ fn transfer<M: Memory>(memory: &mut M, place: u64, action: Action) -> Option<u64
 impl<M: Memory, P: Policy> Machine<M, P> {
     /// Walks for an access of a hart in a space, and fills a way with what was found.
     fn fill(&mut self, hart: HartId, space: usize, access: &Access) -> Result<Found, Cause>
-        ensures step { Did (filled self.old.state (P.Policy.choice self.old.policy hart.number) hart.number space access.now (row_of self.old.state hart.number)) result self.new.state }
+        ensures step { Did (filled (state_of M.Memory.cells P.Policy.last self.old) (P.Policy.choice self.old.policy hart.number) hart.number space access.now (row_of (state_of M.Memory.cells P.Policy.last self.old) hart.number)) result (state_of M.Memory.cells P.Policy.last self.new) }
         ensures within { IfOk result (λ found. found.frame < 2 ^ 44) }
     {
         let root = self.core.walk_root(space);
@@ -141,7 +141,7 @@ impl<M: Memory, P: Policy> Machine<M, P> {
     /// Where an access of a hart in a space comes to: by a hit, which is touched, or by a walk. Refuses 30, then the
     /// walk's.
     fn find(&mut self, hart: HartId, space: usize, access: &Access) -> Result<Found, Cause>
-        ensures step { Did (find_step self.old.state (P.Policy.choice self.old.policy hart.number) hart.number space access.now) result self.new.state }
+        ensures step { Did (find_step (state_of M.Memory.cells P.Policy.last self.old) (P.Policy.choice self.old.policy hart.number) hart.number space access.now) result (state_of M.Memory.cells P.Policy.last self.new) }
         ensures within { IfOk result (λ found. found.frame < 2 ^ 44) }
     {
         if access.address % 8 != 0 {
@@ -159,7 +159,7 @@ impl<M: Memory, P: Policy> Machine<M, P> {
 
     /// Moves one doubleword for a hart in the space that it is in. Refuses 10, 12, 30, then the walk's.
     pub fn access(&mut self, hart: usize, request: &Request) -> Result<Reached, Refusal>
-        ensures { Did (access_step self.old.state (P.Policy.choice self.old.policy hart) hart request.now) result self.new.state }
+        ensures { Did (access_step (state_of M.Memory.cells P.Policy.last self.old) (P.Policy.choice self.old.policy hart) hart request.now) result (state_of M.Memory.cells P.Policy.last self.new) }
     {
         let id = self.core.hart_id(hart)?;
         let status = self.core.harts[id.number];

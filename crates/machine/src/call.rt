@@ -1,7 +1,7 @@
 // Calls and answers as values, so that a list of calls can be made and told.
 ghost use Rattle.std.specs.Prelude.{◌≡◌};
 ghost use Rattle.machine.specs.Calls.{access_call, call_step};
-ghost use Rattle.machine.specs.State.{Did};
+ghost use Rattle.machine.specs.State.{state_of, Did};
 
 use crate::access::{Action, Reached, Request};
 use crate::machine::Machine;
@@ -94,7 +94,7 @@ impl Call {
 impl<M: Memory, P: Policy> Machine<M, P> {
     /// Makes a call.
     pub fn call(&mut self, call: Call) -> Result<Answer, Refusal>
-        ensures { Did (call_step self.old.state (P.Policy.choice self.old.policy) call) result self.new.state }
+        ensures { Did (call_step (state_of M.Memory.cells P.Policy.last self.old) (P.Policy.choice self.old.policy) call) result (state_of M.Memory.cells P.Policy.last self.new) }
     {
         let answer = match call {
             Call::Space => Answer::Space(self.space()?),

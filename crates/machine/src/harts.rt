@@ -1,7 +1,7 @@
 // The calls on harts and debts.
 ghost use Rattle.std.specs.Prelude.{◌≡◌};
 ghost use Rattle.machine.specs.Harts.{enter_step, status_step, fence_step, settle_step};
-ghost use Rattle.machine.specs.State.{Did};
+ghost use Rattle.machine.specs.State.{state_of, Did};
 
 use crate::asking::scope_of;
 use crate::hart::Hart;
@@ -15,7 +15,7 @@ use policy::Policy;
 impl<M: Memory, P: Policy> Machine<M, P> {
     /// Puts a hart into a space. Refuses 10, 11.
     pub fn enter(&mut self, hart: usize, space: usize) -> Result<(), Refusal>
-        ensures { Did (enter_step self.old.state hart space) result self.new.state }
+        ensures { Did (enter_step (state_of M.Memory.cells P.Policy.last self.old) hart space) result (state_of M.Memory.cells P.Policy.last self.new) }
     {
         let id = self.core.hart_id(hart)?;
         self.core.root_of(space).ok_or(Refusal::NoSpace)?;
@@ -25,7 +25,7 @@ impl<M: Memory, P: Policy> Machine<M, P> {
 
     /// Sets a hart's SUM and MXR. Refuses 10.
     pub fn status(&mut self, hart: usize, sum: bool, mxr: bool) -> Result<(), Refusal>
-        ensures { Did (status_step self.old.state hart sum mxr) result self.new.state }
+        ensures { Did (status_step (state_of M.Memory.cells P.Policy.last self.old) hart sum mxr) result (state_of M.Memory.cells P.Policy.last self.new) }
     {
         let id = self.core.hart_id(hart)?;
         let status = self.core.harts[id.number];
@@ -41,7 +41,7 @@ impl<M: Memory, P: Policy> Machine<M, P> {
         space: Option<usize>,
         address: Option<u64>,
     ) -> Result<usize, Refusal>
-        ensures { Did (fence_step self.old.state hart space address) result self.new.state }
+        ensures { Did (fence_step (state_of M.Memory.cells P.Policy.last self.old) hart space address) result (state_of M.Memory.cells P.Policy.last self.new) }
     {
         let id = self.core.hart_id(hart)?;
         if !self.core.stands(space) {
@@ -56,7 +56,7 @@ impl<M: Memory, P: Policy> Machine<M, P> {
 
     /// Closes a debt on which every hart is marked; answers the frame released, if it was an unmap's. Refuses 21, 22.
     pub fn settle(&mut self, debt: u64) -> Result<Option<u64>, Refusal>
-        ensures { Did (settle_step self.old.state debt) result self.new.state }
+        ensures { Did (settle_step (state_of M.Memory.cells P.Policy.last self.old) debt) result (state_of M.Memory.cells P.Policy.last self.new) }
     {
         let released = self.core.debts.settle(debt, self.core.count)?;
         if let Some(frame) = released {

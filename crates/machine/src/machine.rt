@@ -5,7 +5,7 @@ ghost use Rattle.debts.specs.Debts as owed;
 ghost use Rattle.frames.specs.Frames.{frames_of};
 ghost use Rattle.frames.specs.Frames as pooled;
 ghost use Rattle.tlb.specs.Harts.{rows_of};
-ghost use Rattle.machine.specs.State.{Whole, core_state, fresh, outside};
+ghost use Rattle.machine.specs.State.{state_of, fresh, outside};
 ghost use Rattle.machine.specs.Refusals.{check_for};
 
 use crate::hart::{Core, Hart};
@@ -14,21 +14,16 @@ use debts::Ledger;
 use frames::Pool;
 use memory::Memory;
 use policy::Policy;
-use std::marker::Model;
 use tlb::Rows;
 
-/// A machine over a memory and a replacement policy, both of which it owns. It means these and its state.
+// No model: it would ask the bounds of every struct that holds a machine, and hide from callers that the state's list
+// is what the memory means, and its last ways the policy's.
+/// A machine over a memory and a replacement policy, both of which it owns.
 #[derive(Drop)]
-pub struct Machine<M: Memory, P: Policy> {
+pub struct Machine<M, P> {
     pub(crate) memory: M,
     pub(crate) policy: P,
     pub(crate) core: Core,
-}
-
-impl<M: Memory, P: Policy> Model for Machine<M, P> {
-    ghost Value = { Whole M P };
-
-    ghost view = { λ m. record { memory = m.memory; policy = m.policy; state = core_state (M.Memory.cells m.memory) (P.Policy.last m.policy) m.core } };
 }
 
 /// Whether a machine of so many harts over this memory is one that the rules allow: refuses 5, then 4.
@@ -74,7 +69,7 @@ impl<M: Memory, P: Policy> Machine<M, P> {
     /// A fresh machine. The count of harts is brought into 1 to 8, and the first frames of the memory are used, at most
     /// 1,024.
     pub fn new(memory: M, policy: P, harts: usize) -> Machine<M, P>
-        ensures state { result.state ≡ fresh (M.Memory.cells memory) (P.Policy.last policy) harts }
+        ensures state { state_of M.Memory.cells P.Policy.last result ≡ fresh (M.Memory.cells memory) (P.Policy.last policy) harts }
         ensures memory { result.memory ≡ memory }
         ensures policy { result.policy ≡ policy }
     {

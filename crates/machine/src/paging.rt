@@ -1,7 +1,7 @@
 // The calls on frames, spaces and pages.
 ghost use Rattle.std.specs.Prelude.{◌≡◌};
 ghost use Rattle.machine.specs.Pages.{space_step, grant_step, back_step, leaf_or, leaf_below, map_allowed, map_step, protect_allowed, protect_step, unmap_allowed, unmap_step};
-ghost use Rattle.machine.specs.State.{Did};
+ghost use Rattle.machine.specs.State.{state_of, Did};
 
 use crate::asking::page_in;
 use crate::machine::Machine;
@@ -32,7 +32,7 @@ pub struct Unmapped {
 impl<M: Memory, P: Policy> Machine<M, P> {
     /// A new space with an empty root table; answers its number. Refuses 13, 14.
     pub fn space(&mut self) -> Result<usize, Refusal>
-        ensures { Did (space_step self.old.state) result self.new.state }
+        ensures { Did (space_step (state_of M.Memory.cells P.Policy.last self.old)) result (state_of M.Memory.cells P.Policy.last self.new) }
     {
         let number = lowest_empty(&self.core.roots).ok_or(Refusal::SpacesFull)?;
         let frame = self.core.pool.take(Use::Table).ok_or(Refusal::NoFrame)?;
@@ -43,7 +43,7 @@ impl<M: Memory, P: Policy> Machine<M, P> {
 
     /// A frame to hold, filled with zeros. Refuses 14.
     pub fn grant(&mut self) -> Result<u64, Refusal>
-        ensures { Did (grant_step self.old.state) result self.new.state }
+        ensures { Did (grant_step (state_of M.Memory.cells P.Policy.last self.old)) result (state_of M.Memory.cells P.Policy.last self.new) }
     {
         let held = self.core.pool.take(Use::Held).ok_or(Refusal::NoFrame)?;
         clear_frame(&mut self.memory, held);
@@ -52,7 +52,7 @@ impl<M: Memory, P: Policy> Machine<M, P> {
 
     /// Gives a held frame back. Refuses 15.
     pub fn back(&mut self, frame: u64) -> Result<(), Refusal>
-        ensures { Did (back_step self.old.state frame) result self.new.state }
+        ensures { Did (back_step (state_of M.Memory.cells P.Policy.last self.old) frame) result (state_of M.Memory.cells P.Policy.last self.new) }
     {
         if self.core.pool.free(frame, Use::Held) {
             Ok(())
@@ -63,8 +63,8 @@ impl<M: Memory, P: Policy> Machine<M, P> {
 
     /// The tables below a root.
     fn tables(&self, root: u16) -> Tables<'_, M>
-        ensures memory { M.Memory.cells result.memory.now ≡ self.now.state.cells }
-        ensures limit { result.limit ≡ self.now.state.frames.limit }
+        ensures memory { M.Memory.cells result.memory.now ≡ M.Memory.cells self.now.memory }
+        ensures limit { result.limit ≡ self.now.core.pool.limit }
         ensures root { result.root.number ≡ root }
     {
         Tables {
@@ -76,7 +76,7 @@ impl<M: Memory, P: Policy> Machine<M, P> {
 
     /// The leaf of a page below a root. Refuses 19.
     fn mapped(&self, root: u16, address: u64) -> Result<Leaf, Refusal>
-        ensures { result ≡ leaf_or (leaf_below self.now.state root address) }
+        ensures { result ≡ leaf_or (leaf_below (state_of M.Memory.cells P.Policy.last self.now) root address) }
     {
         self.tables(root).leaf(address).ok_or(Refusal::NotMapped)
     }
@@ -89,7 +89,7 @@ impl<M: Memory, P: Policy> Machine<M, P> {
         frame: u64,
         rights: Rights,
     ) -> Result<(u16, u16), Refusal>
-        ensures { result ≡ map_allowed self.now.state space address frame rights }
+        ensures { result ≡ map_allowed (state_of M.Memory.cells P.Policy.last self.now) space address frame rights }
     {
         let root = self.core.locate(space, address)?;
         if !is_valid(rights) {
@@ -115,7 +115,7 @@ impl<M: Memory, P: Policy> Machine<M, P> {
         frame: u64,
         rights: Rights,
     ) -> Result<u64, Refusal>
-        ensures { Did (map_step self.old.state space address frame rights) result self.new.state }
+        ensures { Did (map_step (state_of M.Memory.cells P.Policy.last self.old) space address frame rights) result (state_of M.Memory.cells P.Policy.last self.new) }
     {
         let (root, held) = self.allow_map(space, address, frame, rights)?;
         let pool = &mut self.core.pool;
@@ -129,7 +129,7 @@ impl<M: Memory, P: Policy> Machine<M, P> {
 
     /// The leaf of a page whose rights may change. Refuses 11, 16, 17, 19.
     fn allow_protect(&self, space: usize, address: u64, rights: Rights) -> Result<Leaf, Refusal>
-        ensures { result ≡ protect_allowed self.now.state space address rights }
+        ensures { result ≡ protect_allowed (state_of M.Memory.cells P.Policy.last self.now) space address rights }
     {
         let root = self.core.locate(space, address)?;
         if !is_valid(rights) {
@@ -146,7 +146,7 @@ impl<M: Memory, P: Policy> Machine<M, P> {
         address: u64,
         rights: Rights,
     ) -> Result<Protected, Refusal>
-        ensures { Did (protect_step self.old.state space address rights) result self.new.state }
+        ensures { Did (protect_step (state_of M.Memory.cells P.Policy.last self.old) space address rights) result (state_of M.Memory.cells P.Policy.last self.new) }
     {
         let (place, old) = self.allow_protect(space, address, rights)?;
         let leaf = old.with_flags(rights.leaf_flags());
@@ -162,7 +162,7 @@ impl<M: Memory, P: Policy> Machine<M, P> {
 
     /// The leaf of a page that may be unmapped. Refuses 11, 16, 19.
     fn allow_unmap(&self, space: usize, address: u64) -> Result<Leaf, Refusal>
-        ensures { result ≡ unmap_allowed self.now.state space address }
+        ensures { result ≡ unmap_allowed (state_of M.Memory.cells P.Policy.last self.now) space address }
     {
         let root = self.core.locate(space, address)?;
         self.mapped(root, address)
@@ -170,7 +170,7 @@ impl<M: Memory, P: Policy> Machine<M, P> {
 
     /// Unmaps a page: its frame is owed until the debt that arises is settled. Refuses 11, 16, 19, 20.
     pub fn unmap(&mut self, space: usize, address: u64) -> Result<Unmapped, Refusal>
-        ensures { Did (unmap_step self.old.state space address) result self.new.state }
+        ensures { Did (unmap_step (state_of M.Memory.cells P.Policy.last self.old) space address) result (state_of M.Memory.cells P.Policy.last self.new) }
     {
         let (place, leaf) = self.allow_unmap(space, address)?;
         let frame = leaf.ppn;

@@ -4,8 +4,8 @@ use Rattle.sv39.specs.Address.{page}
 use Rattle.tlb.specs.declared.way.Way.{Way}
 use Rattle.tlb.specs.Trying.{served, tried}
 use Rattle.machine.specs.declared.refusal.Cause.TheVariants.{Misaligned}
-use Rattle.machine.specs.Accesses.{filled, find_step, found_by}
-use Rattle.machine.specs.State.{State, core_state, row_of}
+use Rattle.machine.specs.Accesses.{filled, found_by}
+use Rattle.machine.specs.State.{State, state_of, row_of}
 use Rattle.tlb.proofs.Harts.{rows_eight}
 use Rattle.machine.proofs.Filling.{filled_after_tried}
 use Rattle.machine.proofs.States.{did_at}
@@ -13,8 +13,8 @@ use Rattle.machine.proofs.machine.Machine.find.Goals as goal
 
 pub returns-in-None : goal.returns-in-None
 returns-in-None g c =
-    let m = c.self.inside in
-    let s = core_state (g.M.Memory.cells m.memory) (g.P.Policy.last m.policy) m.core in
+    let m = c.args.self.now in
+    let s = state_of g.M.Memory.cells g.P.Policy.last m in
     let q = c.args.access.now in
     let hart = c.args.hart.number in
     let space = c.args.space in
@@ -38,10 +38,9 @@ returns-in-None g c =
     ap (λ (rows : List (List (Option Way))). record { cells = s.cells; frames = s.frames; roots = s.roots; debts = s.debts; harts = s.harts; rows = rows; count = s.count; last = s.last }) rows_are in
     record {
       step =
-          did_at (λ w. find_step w.state (g.P.Policy.choice w.policy hart) hart space q) c.self.view_is
-          (did_at (λ (b : Bool). cond b (found_by s choice hart space q (served space (page q.address) q (row_of s hart))) (Err Misaligned, s)) (sym (eq-eqb (q.address % 8) 0 c.if-access-ne0.false))
+          did_at (λ (b : Bool). cond b (found_by s choice hart space q (served space (page q.address) q (row_of s hart))) (Err Misaligned, s)) (sym (eq-eqb (q.address % 8) 0 c.if-access-ne0.false))
           (did_at (found_by s choice hart space q) told
           (did_at (λ x. x) (filled_after_tried s choice hart space q row h)
-          (did_at (λ (v : State). filled v choice hart space q (row_of v hart)) after-trying c.fill.ensures.step))));
+          (did_at (λ (v : State). filled v choice hart space q (row_of v hart)) after-trying c.fill.ensures.step)));
       within = c.fill.ensures.within;
     }

@@ -1,0 +1,9 @@
+// What a maker's own code knows of a machine that it holds. These functions are there to be proved: a change of the
+// machine that hides what they rest on is refused here.
+#![tactic(auto)]
+
+mod board;
+mod knowing;
+
+pub use board::Board;
+pub use knowing::{hart_count, next_step, toggle_sum};
