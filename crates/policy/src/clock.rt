@@ -13,6 +13,13 @@ use crate::{Policy, PolicyRefusal, accept};
 /// A pick finds its way within this many looks.
 const LOOKS: usize = 18;
 
+/// Whether a way is the one touched last.
+fn is_last(last: Option<usize>, way: usize) -> bool
+    ensures { result ≡ is_last last way }
+{
+    last == Some(way)
+}
+
 impl Dial {
     fn fresh() -> Dial
         ensures marks { result.marks ≡ replicate 16 false }
@@ -48,7 +55,7 @@ impl Dial {
         for _look in 0..LOOKS {
             let way = self.hand;
             self.hand = (way + 1) % 16;
-            if self.last == Some(way) {
+            if is_last(self.last, way) {
                 continue;
             }
             if !self.marks[way] {

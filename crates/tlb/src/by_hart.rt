@@ -1,6 +1,5 @@
-// A hart's row among those of all. Where it changes, the rows are lent before it: the prover has no plan for an element
-// lent in one step where it and the struct that holds its array both have a ghost field.
-ghost use Rattle.std.specs.Prelude.{◌≡◌, ◌^◌, ◌<◌, replicate, IfSome, Some, None, slice_set};
+// A hart's row among those of all.
+ghost use Rattle.std.specs.Prelude.{◌≡◌, ◌^◌, ◌<◌, length, replicate, IfSome, Some, None, slice_set};
 ghost use Rattle.tlb.specs.Harts.{rows_of, row_at};
 ghost use Rattle.tlb.specs.Rows.{fenced, emptied};
 ghost use Rattle.tlb.specs.Slots.{empty_slot};
@@ -28,9 +27,9 @@ impl Rows {
         ensures answer { result ≡ served page.space page.page access.now (row_at (rows_of self.old) hart.number) }
         ensures rows { rows_of self.new ≡ slice_set (rows_of self.old) hart.number (tried page.space page.page access.now (row_at (rows_of self.old) hart.number)) }
         ensures within { IfSome result (λ hit. (hit.0 < 16) × (hit.1 < 2 ^ 44)) }
+        ensures each { length (rows_of self.old) ≡ 8 }
     {
-        let rows = &mut self.rows;
-        rows[hart.number].try_way(page, access)
+        self.rows[hart.number].try_way(page, access)
     }
 
     /// The lowest empty way of a hart.
@@ -45,8 +44,7 @@ impl Rows {
     pub fn put(&mut self, hart: HartId, way: usize, held: Way)
         ensures { rows_of self.new ≡ slice_set (rows_of self.old) hart.number (slice_set (row_at (rows_of self.old) hart.number) way (Some held)) }
     {
-        let rows = &mut self.rows;
-        rows[hart.number].put(way, held);
+        self.rows[hart.number].put(way, held);
     }
 
     /// A hart's row fenced, as `Row::fence` has it.
@@ -54,7 +52,6 @@ impl Rows {
         ensures rows { rows_of self.new ≡ slice_set (rows_of self.old) hart.number (fenced scope.space scope.page (row_at (rows_of self.old) hart.number)) }
         ensures count { result ≡ emptied scope.space scope.page (row_at (rows_of self.old) hart.number) }
     {
-        let rows = &mut self.rows;
-        rows[hart.number].fence(scope)
+        self.rows[hart.number].fence(scope)
     }
 }

@@ -1,6 +1,4 @@
 // The rows of eight harts.
-ghost use Rattle.std.specs.Prelude.{◌≡◌, length};
-
 use crate::row::Row;
 
 // No model: that asks a `Copy` value to give its fields back, and these would be made anew from their ways.
@@ -8,5 +6,4 @@ use crate::row::Row;
 #[derive(Clone, Copy)]
 pub struct Rows {
     pub rows: [Row; 8],
-    ghost full: { length rows ≡ 8 },
 }

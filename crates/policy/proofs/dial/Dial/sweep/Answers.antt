@@ -1,14 +1,8 @@
-use Rattle.std.proofs.Common.{◌≡◌, ℕ, suc, ◌+◌, ◌-◌, Bool, nat_eq, Some, None, Option, sym, refl, ap, ◌∙◌}
-use Rattle.std.specs.Option.{option_eq}
-use Rattle.policy.specs.Dial.{is_last, Swept, beyond, sweep, swept}
+use Rattle.std.proofs.Common.{◌≡◌, suc, ◌+◌, ◌-◌, sym, refl, ap, ◌∙◌}
+use Rattle.policy.specs.Dial.{Swept, beyond, sweep, swept}
 use Rattle.policy.specs.Dials.{look_last, look_marked, look_free, looks_left, no_look_left}
 use Rattle.policy.proofs.dial.Dial.sweep.Goals as goal
 use Rattle.policy.proofs.dial.Dial.sweep.Goals.{In-loop-look}
-
--- what the comparison with the last way tells
-compared : (last : Option ℕ) (way : ℕ) (b : Bool) → b ≡ option_eq nat_eq last (Some way) → is_last last way ≡ b
-compared None way b e = sym e
-compared (Some w) way b e = sym e
 
 -- the sweep from this look on ends as the whole does
 onward : (c : In-loop-look) → sweep (suc (18 - (c.loop-look._look + 1))) c.loop-look.self.marks c.loop-look.self.hand c.loop-look.self.last ≡ swept c.args.self.now.marks c.args.self.now.hand c.args.self.now.last
@@ -20,11 +14,11 @@ pub loop-look-init : goal.loop-look-init
 unfolding swept
 loop-look-init c = (refl, refl)
 
-pub loop-look-preserved-then-eq : goal.loop-look-preserved-then-eq
-loop-look-preserved-then-eq c =
+pub loop-look-preserved-then-is_last : goal.loop-look-preserved-then-is_last
+loop-look-preserved-then-is_last c =
     let s = c.loop-look.self in (
-      sym (look_last (18 - (c.loop-look._look + 1)) s.marks s.hand s.last (compared s.last s.hand _ c.if-eq.ensures))
-          ∙ onward (goal.at.loop-look-preserved-then-eq c).In-loop-look,
+      sym (look_last (18 - (c.loop-look._look + 1)) s.marks s.hand s.last (sym c.if-is_last.ensures))
+          ∙ onward (goal.at.loop-look-preserved-then-is_last c).In-loop-look,
       c.loop-look.invariant.1,
     )
 
@@ -32,7 +26,7 @@ pub returns-then-not-self-way : goal.returns-then-not-self-way
 returns-then-not-self-way c =
     let s = c.loop-look.self in
     let e : ◌≡◌ {A = Swept} (record { way = s.hand; marks = s.marks; hand = beyond s.hand }) (swept c.args.self.now.marks c.args.self.now.hand c.args.self.now.last) =
-    sym (look_free (18 - (c.loop-look._look + 1)) s.marks s.hand s.last (compared s.last s.hand _ c.if-eq.ensures) c.if-not-self-way.true)
+    sym (look_free (18 - (c.loop-look._look + 1)) s.marks s.hand s.last (sym c.if-is_last.ensures) c.if-not-self-way.true)
     ∙ onward (goal.at.returns-then-not-self-way c).In-loop-look in
     record {
       way = ap (λ (w : Swept). w.way) e;
@@ -44,7 +38,7 @@ returns-then-not-self-way c =
 pub loop-look-preserved : goal.loop-look-preserved
 loop-look-preserved c =
     let s = c.loop-look.self in (
-      sym (look_marked (18 - (c.loop-look._look + 1)) s.marks s.hand s.last (compared s.last s.hand _ c.if-eq.ensures) c.if-not-self-way.false)
+      sym (look_marked (18 - (c.loop-look._look + 1)) s.marks s.hand s.last (sym c.if-is_last.ensures) c.if-not-self-way.false)
           ∙ onward (goal.at.loop-look-preserved c).In-loop-look,
       c.loop-look.invariant.1,
     )
