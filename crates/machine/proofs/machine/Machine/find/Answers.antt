@@ -6,7 +6,6 @@ use Rattle.tlb.specs.Trying.{served, tried}
 use Rattle.machine.specs.declared.refusal.Cause.TheVariants.{Misaligned}
 use Rattle.machine.specs.Accesses.{filled, found_by}
 use Rattle.machine.specs.State.{State, state_of, row_of}
-use Rattle.tlb.proofs.Harts.{rows_eight}
 use Rattle.machine.proofs.Filling.{filled_after_tried}
 use Rattle.machine.proofs.States.{did_at}
 use Rattle.machine.proofs.machine.Machine.find.Goals as goal
@@ -20,7 +19,7 @@ returns-in-None g c =
     let space = c.args.space in
     let choice = g.P.Policy.choice m.policy hart in
     let row = tried space (page q.address) q (row_of s hart) in
-    let eight = rows_eight m.core.rows in
+    let eight = c.try_way.ensures.each in
     let low = c.args.hart.low in
     let h : hart < length s.rows = omega arith in
     let p = c.page_in-page.result in
