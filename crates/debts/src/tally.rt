@@ -9,10 +9,12 @@ impl Ledger {
     pub fn count(&self) -> usize
         ensures { result ≡ open_count (debts_of self.now) }
     {
-        // No chain: it is four times slower, as only a loop is unrolled whole.
+        // No chain: of the forms tried, only this loop is unrolled whole.
         let mut count = 0;
         for slot in &self.slots {
-            count += usize::from(slot.is_some());
+            if slot.is_some() {
+                count += 1;
+            }
         }
         count
     }
