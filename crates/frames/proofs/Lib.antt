@@ -1,4 +1,5 @@
 pub mod Counting
+pub mod Finding
 pub mod Soundness
 pub mod Stacks
 pub mod Takes

@@ -1,10 +1,11 @@
 -- What is taken, and what is left, in the pool as a value.
-use Rattle.std.proofs.Common.{◌≡◌, ℕ, ◌+◌, ◌-◌, ◌<◌, ◌≤◌, true, false, cond, ltb, List, get_or, set, Some, None, sym, ap, ◌∙◌, subst, ⊎_elim, arith}
+use Rattle.std.proofs.Common.{◌≡◌, ℕ, zero, suc, ◌+◌, ◌-◌, ◌<◌, ◌≤◌, true, false, cond, ltb, List, get_or, set, Some, None, sym, ap, ◌∙◌, subst, ⊎_elim, arith}
 use Rattle.std.proofs.lemmas.Bool.{cases_Bool, ltb-true, lt-ltb, le-ltb, cond-true, cond-false}
 use Rattle.frames.specs.declared.state.FrameState.{FrameState}
 use Rattle.frames.specs.Busy.{one}
 use Rattle.frames.specs.Frames.{Frames, stack, next_of, taken_of}
 use Rattle.frames.proofs.Soundness.{Sound, popped_sound}
+use Rattle.frames.proofs.Finding.{found_some}
 use Rattle.frames.proofs.Stacks.{stack_pop, stack_none}
 
 abbrev pub pool : List FrameState → ℕ → ℕ → List ℕ → Frames
@@ -61,3 +62,17 @@ module _ (states : List FrameState) (frames : List ℕ) (height mark limit : ℕ
     none_taken l =
         ap (pool states mark limit) (stack_none frames height none)
         ∙ sym (ap (λ (xs : List ℕ). taken_of states xs mark limit to) (stack_none frames height none) ∙ cond-false (ltb mark limit) _ _ (le-ltb mark limit l))
+
+-- the frame that is taken next is one of the pool's
+pub next_below : (states : List FrameState) (frames : List ℕ) (height mark limit f : ℕ) → Sound states frames height mark limit → next_of (stack frames height) mark limit ≡ Some f → f < 1024
+unfolding stack
+next_below states frames zero mark limit f s e =
+    let p = found_some (ltb mark limit) mark f e in
+    let l = ltb-true mark limit p.0 in
+    let b = s.bounds in
+    omega arith
+next_below states frames (suc height) mark limit f s e =
+    let top = (s.piled height (omega arith)).0 in
+    let b = s.bounds in
+    let q : get_or frames height 0 ≡ f = cc in
+    omega arith

@@ -1,9 +1,9 @@
 -- The pool as a value, and what each use of it leaves.
-use Rattle.std.specs.Prelude.{ℕ, zero, suc, ◌+◌, ◌-◌, Bool, cond, ◌&&◌, List, [], ◌∷◌, length, take, replicate, Some, None, count_by, Option, nat_lt, slice_index, slice_index_or, slice_set}
+use Rattle.std.specs.Prelude.{ℕ, zero, suc, ◌+◌, ◌-◌, Bool, cond, ◌&&◌, List, [], ◌∷◌, length, take, replicate, Some, None, count_by, Option, ◌==◌, nat_lt, slice_index, slice_index_or, slice_set}
 use Rattle.frames.specs.declared.pool.Pool.{Pool}
 use Rattle.frames.specs.declared.state.FrameState.{FrameState}
 use Rattle.frames.specs.declared.state.FrameState.TheVariants.{Free}
-use Rattle.frames.specs.Busy.{same}
+use Rattle.frames.specs.Busy.{one, same}
 
 -- every frame's state, the pile with its top first, the lowest frame never used, and how many frames there are
 pub record Frames : Type 0 where
@@ -45,6 +45,10 @@ taken_of states (frame ∷ pile) mark limit to = record { states = slice_set sta
 
 abbrev pub taken : Frames → FrameState → Frames
 taken v to = taken_of v.states v.pile v.mark v.limit to
+
+-- whether a number is that of a busy frame
+abbrev pub is_busy : Frames → ℕ → Bool
+is_busy v frame = one (slice_index_or v.states frame Free) == 1
 
 -- a frame put on the pile, free
 abbrev pub released : Frames → ℕ → Frames

@@ -1,8 +1,8 @@
 // Frames by their numbers and their uses.
 ghost use Rattle.std.specs.Prelude.{◌≡◌, if◌then◌else◌, Some, None, nat_lt, slice_index_or};
 ghost use Rattle.frames.specs.declared.state.FrameState.TheVariants.{Free};
-ghost use Rattle.frames.specs.Busy.{one, state_of_use};
-ghost use Rattle.frames.specs.Frames.{frames_of, is_in, turned, freed, released, changed};
+ghost use Rattle.frames.specs.Busy.{state_of_use};
+ghost use Rattle.frames.specs.Frames.{frames_of, is_in, turned, freed, is_busy, released, changed};
 
 use crate::pool::Pool;
 use crate::state::{FrameState, Use};
@@ -35,7 +35,7 @@ impl Pool {
         let Some(found) = self.find(frame, from.into()) else {
             return false;
         };
-        self.change(found, to);
+        self.change(usize::from(found), to);
         true
     }
 
@@ -47,24 +47,36 @@ impl Pool {
         let Some(found) = self.find(frame, from.into()) else {
             return false;
         };
-        self.release(found);
+        self.release(usize::from(found));
         true
     }
 
-    /// Puts a busy frame to another use.
-    fn change(&mut self, frame: u16, into: Use)
-        requires { one (slice_index_or (frames_of self.old).states frame Free) ≡ 1 }
-        ensures { frames_of self.new ≡ changed (frames_of self.old) frame (state_of_use into) }
+    /// Puts a busy frame to another use; of any other number nothing changes.
+    pub fn change(&mut self, frame: usize, into: Use)
+        ensures { frames_of self.new ≡ (if is_busy (frames_of self.old) frame then changed (frames_of self.old) frame (state_of_use into) else frames_of self.old) }
     {
-        self.states[usize::from(frame)] = into.into();
+        if self.is_busy(frame) {
+            self.states[frame] = into.into();
+        }
     }
 
-    /// Puts a busy frame on the pile.
-    fn release(&mut self, frame: u16)
-        requires { one (slice_index_or (frames_of self.old).states frame Free) ≡ 1 }
-        ensures { frames_of self.new ≡ released (frames_of self.old) frame }
+    /// Puts a busy frame on the pile, free; of any other number nothing changes.
+    pub fn release(&mut self, frame: usize)
+        ensures { frames_of self.new ≡ (if is_busy (frames_of self.old) frame then released (frames_of self.old) frame else frames_of self.old) }
     {
-        self.states[usize::from(frame)] = FrameState::Free;
-        self.pile.push(frame);
+        if !self.is_busy(frame) {
+            return;
+        }
+        self.states[frame] = FrameState::Free;
+        self.pile.push(frame as u16);
+    }
+
+    /// Whether a number is that of a busy frame.
+    fn is_busy(&self, frame: usize) -> bool
+        ensures { result ≡ is_busy (frames_of self.now) frame }
+    {
+        self.states
+            .get(frame)
+            .is_some_and(|state| *state != FrameState::Free)
     }
 }

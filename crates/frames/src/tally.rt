@@ -10,6 +10,6 @@ impl Pool {
     pub fn count(&self, state: FrameState) -> usize
         ensures { result ≡ count_in (frames_of self.now) state }
     {
-        self.live().iter().filter(|s| **s == state).count()
+        self.live().iter().map(|s| usize::from(*s == state)).sum()
     }
 }
