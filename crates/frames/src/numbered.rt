@@ -68,6 +68,7 @@ impl Pool {
             return;
         }
         self.states[frame] = FrameState::Free;
+        // A busy frame is one of 1,024, so the cast loses nothing.
         self.pile.push(frame as u16);
     }
 

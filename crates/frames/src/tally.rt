@@ -10,6 +10,7 @@ impl Pool {
     pub fn count(&self, state: FrameState) -> usize
         ensures { result ≡ count_in (frames_of self.now) state }
     {
+        // Summed and not filtered: a filter branches by the data, and takes twice the time.
         self.live().iter().map(|s| usize::from(*s == state)).sum()
     }
 }

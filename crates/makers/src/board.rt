@@ -11,11 +11,12 @@ pub struct Board<M, P> {
 }
 
 impl<M, P> Board<M, P> {
-    /// The machine, as it is now.
-    pub fn into_machine(self) -> Machine<M, P>
-        ensures { result ≡ self.machine }
+    /// The machine and the count, as they are now.
+    pub fn into_parts(self) -> (Machine<M, P>, u64)
+        ensures machine { result.0 ≡ self.machine }
+        ensures starts { result.1 ≡ self.starts }
     {
-        let Board { machine, starts: _ } = self;
-        machine
+        let Board { machine, starts } = self;
+        (machine, starts)
     }
 }

@@ -1,4 +1,4 @@
-// What is known of a machine's memory, policy and harts from its calls' contracts alone.
+// What is known of a machine's memory, policy and harts from its type and its calls' contracts.
 ghost use Rattle.std.specs.Prelude.{◌≡◌, ◌≤◌};
 ghost use Rattle.machine.specs.Calls.{call_step};
 ghost use Rattle.machine.specs.State.{Did, state_of};
@@ -10,7 +10,7 @@ use policy::Policy;
 
 /// Sets SUM on a fresh machine's hart and takes the machine apart: the memory that comes back means the list that was
 /// lent.
-pub fn toggle_sum<M: Memory, P: Policy>(memory: M, policy: P) -> (M, P)
+pub fn set_sum<M: Memory, P: Policy>(memory: M, policy: P) -> (M, P)
     ensures { M.Memory.cells result.0 ≡ M.Memory.cells memory }
 {
     let mut machine = Machine::new(memory, policy, 1);

@@ -93,6 +93,7 @@ pub struct Outcome {
 }
 
 impl Outcome {
+    /// The outcome of the case of a number, by what its walk answered.
     pub fn new(number: u64, answer: Result<Translation, WalkFault>) -> Outcome
         ensures number { result.number ≡ number }
         ensures answer { result.answer ≡ outcome_of answer }
@@ -124,7 +125,7 @@ impl fmt::Display for Outcome {
     fn fmt<W: fmt::Write>(&self, f: &mut fmt::Formatter<W>) -> fmt::Result {
         let case = self.number;
         match self.answer {
-            Ok(Found { frame, level, leaf }) => { write!(f, "{case} ok {frame} {level} {leaf:#x}") }
+            Ok(Found { frame, level, leaf }) => write!(f, "{case} ok {frame} {level} {leaf:#x}"),
             Err(fault) => {
                 let report = fault.report();
                 let number = report.number;
