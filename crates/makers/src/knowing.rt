@@ -1,25 +1,32 @@
 // What is known of a machine's memory, policy and harts from its type and its calls' contracts.
 ghost use Rattle.std.specs.Prelude.{◌≡◌, ◌≤◌};
 ghost use Rattle.machine.specs.Calls.{call_step};
-ghost use Rattle.machine.specs.State.{Did, state_of};
+ghost use Rattle.machine.specs.State.{Did, eight, state_of};
 ghost use Rattle.law.specs.Runs.{Allowed};
 
 use machine::{Answer, Call, Machine, Refusal};
 use memory::Memory;
 use policy::Policy;
 
-/// Sets SUM on a fresh machine's hart and takes the machine apart: the memory that comes back means the list that was
-/// lent.
-pub fn set_sum<M: Memory, P: Policy>(memory: M, policy: P) -> (M, P)
-    ensures { M.Memory.cells result.0 ≡ M.Memory.cells memory }
+/// Makes one last call and takes the machine apart: the memory that comes back means the list that the call's step
+/// leaves, and the policy's last touched ways are those of that step.
+pub fn last_call<M: Memory, P: Policy>(
+    machine: Machine<M, P>,
+    call: Call,
+) -> (Result<Answer, Refusal>, M, P)
+    ensures answer { result.0 ≡ (call_step (state_of M.Memory.cells P.Policy.last machine) (P.Policy.choice machine.policy) call).0 }
+    ensures memory { M.Memory.cells result.1 ≡ (call_step (state_of M.Memory.cells P.Policy.last machine) (P.Policy.choice machine.policy) call).1.cells }
+    ensures policy { eight (P.Policy.last result.2) ≡ (call_step (state_of M.Memory.cells P.Policy.last machine) (P.Policy.choice machine.policy) call).1.last }
 {
-    let mut machine = Machine::new(memory, policy, 1);
-    let _ = machine.status(0, true, false);
-    machine.into_parts()
+    let mut machine = machine;
+    let answer = machine.call(call);
+    let (memory, policy) = machine.into_parts();
+    (answer, memory, policy)
 }
 
 /// How many harts a machine has, which is 1 to 8.
 pub fn hart_count<M: Memory, P: Policy>(machine: &Machine<M, P>) -> usize
+    ensures count { result ≡ (state_of M.Memory.cells P.Policy.last machine.now).count }
     ensures low { 1 ≤ result }
     ensures high { result ≤ 8 }
 {
